@@ -37,9 +37,12 @@ PLACES = {
         "let _kept = places[usize::from(input.g) % PLACES].take(input, made, usage)",
     ],
     "crates/fx_hint/src/outlines.rt": ["resize(points.len(), BLANK)"],
-    "crates/fx_hint/src/programmed.rt": ["return Err(HintFault::OutOfMemory);"],
     "crates/fx_hint/src/placing.rt": ["let _ends = zone.ends()"],
-    "crates/fx_hint/src/programmed.rt": ["let _count = zone.points().len()", "let _ends = made.zone.ends()"],
+    "crates/fx_hint/src/programmed.rt": [
+        "let _count = zone.points().len()",
+        "let _ends = made.zone.ends()",
+        "return Err(HintFault::OutOfMemory);",
+    ],
     "crates/fx_machine/src/definitions.rt": [
         "with_capacity(alloc, count)",
         "let _copied = self.functions.extend_from_slice(&other.functions)",

@@ -79,7 +79,8 @@ module _ {S V : Type 0} (known : S → Known) (part : S → V) (budget : V → W
     spent (Err OutOfMemory) runs l e = spent_by_all (known x) (budget (part x)) l.0 runs l.1 (spent_here l.0 l.2 e)
     spent (Err f) runs l e = spent_here runs l e
 
-    not_spent_here : (runs : List ProgramRun) → Leads x runs y → is_none (budget (part y)).left ≡ false → is_none (left_by runs) ≡ false
+    not_spent_here : (runs : List ProgramRun) → Leads x runs y → is_none (budget (part y)).left ≡ false
+        → is_none (left_by runs) ≡ false
     not_spent_here runs l e = rw (left_by_runs runs l) at e
 
     -- if it is not, what is made is due

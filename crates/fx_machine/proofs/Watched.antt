@@ -31,8 +31,8 @@ pub stays_seeing : {W : Type 0} (Sees : W → Event → W → Type 0) (now : W) 
 stays_seeing Sees now [] stays = refl
 stays_seeing Sees now (x ∷ left) stays = (now, stays x, stays_seeing Sees now left stays)
 
-pub seen_stopped : {W : Type 0} (Sees : W → Event → W → Type 0) {was now : W} {all left : List Event} → HasSeen Sees was now all left
-    → ((x : Event) → Sees now x now) → Watches Sees was all now
+pub seen_stopped : {W : Type 0} (Sees : W → Event → W → Type 0) {was now : W} {all left : List Event}
+    → HasSeen Sees was now all left → ((x : Event) → Sees now x now) → Watches Sees was all now
 seen_stopped Sees {now = now} {left = left} h stays = h.then now (stays_seeing Sees now left stays)
 
 -- some events, and then others

@@ -39,8 +39,8 @@ searched None address = 0
 abbrev pub apart : ℕ → ℕ → ℕ
 apart m n = (m - n) + (n - m)
 
--- The work of an event. A program that begins counts 1 and what it takes over. An instruction counts 1, the numbers that it took from
--- the stack or put there, more of one than of the other; what it visited; and the bytes that the instruction before it searched.
+-- The work of an event. A program that begins counts 1 and what it takes over. An instruction counts 1, the numbers by which the
+-- stack grew or shrank, what it visited, and the bytes that the instruction before it searched.
 unfoldable pub work_of : Trail → Event → ℕ
 work_of t (Begins program s) = 1 + taken_over s
 work_of t (Executed program code address calls s) =

@@ -264,7 +264,8 @@ impl<'a> Machine<'a> {
         watcher: &mut W,
     ) -> Result<Machine<'a>, MachineFault>
         ensures value { W.stops watcher.new ≡ false → GivesUnless Fails (λ m. m.known) result (machine_of font.entry ppem) }
-        ensures stack { W.stops watcher.new ≡ false → GivesUnless Fails (λ m. m.final_stack) result (final_stack_of font.entry ppem) }
+        ensures stack { W.stops watcher.new ≡ false
+            → GivesUnless Fails (λ m. m.final_stack) result (final_stack_of font.entry ppem) }
         ensures unstopped { IfOk result (λ _. W.stops watcher.new ≡ false) }
         ensures font { IfOk result (λ m. m.known.face ≡ font.entry) }
         ensures size { IfOk result (λ m. m.known.ppem ≡ ppem) }
@@ -418,7 +419,8 @@ impl<'a> Machine<'a> {
         ensures unstopped { IfOk result (λ _. W.stops watcher.new ≡ false) }
         ensures shape { HasShape zone.old zone.new }
         ensures kept { self.new.known ≡ self.old.known }
-        ensures stack { W.stops watcher.new ≡ false → self.new.final_stack ≡ stack_after (glyph_run self.old.known g code.entry zone.old) }
+        ensures stack { W.stops watcher.new ≡ false
+            → self.new.final_stack ≡ stack_after (glyph_run self.old.known g code.entry zone.old) }
         ensures watched { Watches W.Sees watcher.old (glyph_run_events self.old.known g code.entry zone.old) watcher.new }
     {
         let programs = Programs {
