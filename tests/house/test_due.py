@@ -97,6 +97,13 @@ def test_bits(case):
     assert (found.box, found.rows) == (box, rows)
 
 
+def test_glyph_lines():
+    """A glyph of six pixels' advance, at sixteen pixels an em: 6000 / 16 = 375 thousandths."""
+    assert due.glyph_lines(0x41, "1 1 0 0", "80") == (
+        "STARTCHAR uni0041\nENCODING 65\nSWIDTH 375 0\nDWIDTH 6 0\nBBX 1 1 0 0\nBITMAP\n80\nENDCHAR\n")
+    assert "\nSWIDTH 1000 0\nDWIDTH 16 0\n" in due.glyph_lines(0x41, "0 0 0 0", swidth=1000, dwidth=16)
+
+
 def test_rows():
     """Rows in hexadecimal and as pictures, from the top; the box of all boxes; names."""
     assert due.row_lines(Bits(0, 0, 9, [0b100000001, 0b10])) == ["0100", "8080"] and due.row_lines(Bits(0, 0, 8, [1])) == ["01"]

@@ -230,11 +230,12 @@ def test_nothing_planted(tmp_path):
 
 @pytest.mark.parametrize("number", range(len(PLANTED)), ids=[it[0] for it in PLANTED])
 def test_planted(number, tmp_path):
-    """A rule finds the fault that is planted for it."""
+    """A rule finds the fault that is planted for it, and says in which line."""
     name, path, old, new = PLANTED[number]
     build(tmp_path, path, old, new)
     found = found_in(tmp_path)
     assert name in found, "`%s` in %s for `%s`: found %s" % (new, path, old, found or "nothing")
+    assert all(line >= 1 for of_a_rule in found.values() for _, line, _ in of_a_rule), found
 
 
 def test_each_rule_has_a_planted_fault():
