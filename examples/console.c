@@ -86,6 +86,10 @@ int main(int argc, char **argv) {
         return 1;
     }
     fclose(file);
+    if (len == sizeof font) {
+        fprintf(stderr, "console: the font has more than %lu bytes\n", (unsigned long)sizeof font - 1);
+        return 1;
+    }
     mkstrike_arena(block, sizeof block);
     while (*text != 0 && count < MOST) codes[count++] = next_code(&text);
     if (mkstrike_font(font, len, 0, ppem, &info, &why) != MKSTRIKE_DONE) return refused(&why);

@@ -7,8 +7,9 @@
 #include <stdio.h>
 #include <stdlib.h>
 
-/* The font's programs run, and where a stroke would break its own rule closes the gap. */
-enum { MODE = MKSTRIKE_HINTED | MKSTRIKE_DROPOUT_FONT };
+/* The font's programs run, and where a stroke would break its own rule closes the gap. The font may be a stranger's: characters that take
+ * too much work are refused. */
+enum { MODE = MKSTRIKE_HINTED | MKSTRIKE_DROPOUT_FONT | MKSTRIKE_CAREFUL };
 
 static struct mkstrike_refused why;
 

@@ -89,6 +89,8 @@ enum {
     MKSTRIKE_TOO_FAR = 51,
     MKSTRIKE_GLYPH_TOO_LARGE = 52,
 
+    MKSTRIKE_TOO_MUCH_WORK = 53, /* only with MKSTRIKE_CAREFUL: of a character, or of `fpgm` and `prep` */
+
     /* the request */
     MKSTRIKE_BAD_SIZE = 60,
     MKSTRIKE_BAD_CHARS = 61,
@@ -103,15 +105,18 @@ enum {
 /* A mode: 0, or a sum of these. Hinted, the font's programs run. With drop-out control thin strokes stay whole: if the outline passes
  * between the centres of two neighbours in a row or a column and neither is set, the left one, or the lower one, is; with
  * MKSTRIKE_DROPOUT_NEAR in place of MKSTRIKE_DROPOUT the one to which the outline is nearer is. With MKSTRIKE_DROPOUT_FONT each glyph has
- * the one that its font's programs ask for, or no drop-out control if they turn it off; unhinted, or if they ask for nothing, it is as with
- * MKSTRIKE_DROPOUT. Packed, a pixel is a bit, the leftmost the highest of its byte, and a row takes whole bytes, the last filled up with 0;
- * not packed, a pixel is a byte, 255 if it is set and 0 if not. With MKSTRIKE_X11 a strike has the properties that X11 looks for, as
- * `mkstrike make --x11` writes them. All other bits, two bits of drop-out control together, MKSTRIKE_PACKED for mkstrike_make and
- * MKSTRIKE_X11 for any other call are refused by MKSTRIKE_BAD_MODE, before all else. */
+ * the one that its font's programs ask for, or no drop-out control if they turn it off; unhinted, or if they ask for nothing, it is as
+ * with MKSTRIKE_DROPOUT. Packed, a pixel is a bit, the leftmost the highest of its byte, and a row takes whole bytes, the last filled up
+ * with 0; not packed, a pixel is a byte, 255 if it is set and 0 if not. With MKSTRIKE_X11 a strike has the properties that X11 looks for,
+ * as `mkstrike make --x11` writes them. With MKSTRIKE_CAREFUL a character that takes too much work is refused by MKSTRIKE_TOO_MUCH_WORK,
+ * for fonts that you don't trust; mkstrike_make bounds the work of all its characters together too (docs/LIMITS.md). All other bits, two
+ * bits of drop-out control together, MKSTRIKE_PACKED for mkstrike_make and MKSTRIKE_X11 for any other call are refused by
+ * MKSTRIKE_BAD_MODE, before all else. */
 #define MKSTRIKE_HINTED UINT32_C(0x001)
 #define MKSTRIKE_DROPOUT UINT32_C(0x002)
 #define MKSTRIKE_DROPOUT_NEAR UINT32_C(0x004)
 #define MKSTRIKE_DROPOUT_FONT UINT32_C(0x008)
+#define MKSTRIKE_CAREFUL UINT32_C(0x010)
 #define MKSTRIKE_PACKED UINT32_C(0x100)
 #define MKSTRIKE_X11 UINT32_C(0x200)
 
@@ -241,8 +246,9 @@ struct mkstrike_drawn {
 };
 
 /* Makes the glyphs of characters at a size of 1 to 1,024, and opens the font once. Calls of mkstrike_glyph, one per character, would give
- * the same. `chars` are at most 65,536 code points, which are made in the order given, repeats again. There is an entry for each character;
- * the pixels of all lie one glyph after the other in that order.
+ * the same; but with MKSTRIKE_CAREFUL these are refused that a strike of all of them would leave out. `chars` are at most 65,536 code
+ * points, which are made in the order given, repeats again. There is an entry for each character; the pixels of all lie one glyph after
+ * the other in that order.
  *
  * As many entries as fit go to the front of `glyphs`, and as many bytes of pixels as fit to the front of `pixels`; what lies after them
  * stays as it was. So the pixels of an entry are whole if its offset and its stride * height together are at most `pixels_len`. A call
@@ -261,10 +267,12 @@ uint32_t mkstrike_glyphs(const uint8_t *font, size_t font_len, uint32_t face, ui
  * most of the time of a single glyph. A block has what they left; a call by it gives the same result, and runs neither. The words are
  * yours: copy them, share them between threads, keep them in ROM. They hold no pointer, and there is nothing to close.
  *
- * A block is for one font, face and size, and for hinted calls or for unhinted ones; the bits of drop-out control and MKSTRIKE_PACKED may
- * differ from those of mkstrike_prepare. Any other words are refused by MKSTRIKE_BAD_BLOCK, as far as words can tell: a block has the
- * face, the size, the length of the file and, hinted, the checksum that the font has in `head` and the lengths of `fpgm` and `prep`.
- * Reading words is safe, whatever they are. Unhinted, a block has 6 words and saves nothing; so one piece of code can serve both. */
+ * A block is for one font, face and size, and for hinted calls or for unhinted ones; the bits of drop-out control, MKSTRIKE_CAREFUL and
+ * MKSTRIKE_PACKED may differ from those of mkstrike_prepare. By a block MKSTRIKE_CAREFUL bounds the work of characters alone, since
+ * neither `fpgm` nor `prep` runs; in mkstrike_prepare it bounds the work of these two. Any other words are refused by MKSTRIKE_BAD_BLOCK,
+ * as far as words can tell: a block has the face, the size, the length of the file and, hinted, the checksum that the font has in `head`
+ * and the lengths of `fpgm` and `prep`. Reading words is safe, whatever they are. Unhinted, a block has 6 words and saves nothing; so one
+ * piece of code can serve both. */
 
 /* Writes a block of a font at a size of 1 to 1,024: as many of its words as fit go to the front of `block`, and what lies after them
  * stays as it was. `need` tells how many it has, some 800 in most fonts and at most 3,400 in 326 of them. So you can ask with a buffer of

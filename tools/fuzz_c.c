@@ -172,10 +172,10 @@ struct asked {
 
 static struct mkstrike_refused why;
 
-/* Whether a number is a mode: hinted or not, and at most one bit of drop-out control. */
+/* Whether a number is a mode: hinted or not, careful or not, and at most one bit of drop-out control. */
 static int is_mode(uint32_t mode) {
     uint32_t closed = mode & (MKSTRIKE_DROPOUT | MKSTRIKE_DROPOUT_NEAR | MKSTRIKE_DROPOUT_FONT);
-    return (mode & ~(closed | MKSTRIKE_HINTED)) == 0 && (closed & (closed - 1)) == 0;
+    return (mode & ~(closed | MKSTRIKE_HINTED | MKSTRIKE_CAREFUL)) == 0 && (closed & (closed - 1)) == 0;
 }
 
 /* Before a call: nothing was told yet, and request `refused` is refused. */
@@ -708,7 +708,7 @@ int LLVMFuzzerTestOneInput(const uint8_t *input, size_t len) {
     at_front = said[6] & 1;
     a.ppem = said[4] & 1 ? sizes[said[4] >> 1 & 15] : (uint16_t)(1 + said[4] % 40);
     a.mode = closed[said[5] >> 1 & 3] | (said[5] & 1 ? MKSTRIKE_HINTED : 0);
-    if (said[5] > 250) a.mode |= (UINT32_C(2) << draw(30)) & ~(MKSTRIKE_PACKED | MKSTRIKE_X11);
+    if (said[5] > 250) a.mode |= (UINT32_C(2) << draw(30)) & ~(MKSTRIKE_CAREFUL | MKSTRIKE_PACKED | MKSTRIKE_X11);
     a.packed = said[6] & 2 ? MKSTRIKE_PACKED : 0;
     a.x11 = said[6] & 16 ? MKSTRIKE_X11 : 0;
     a.face = said[22] % 8 == 0 ? said[22] / 8 : 0;

@@ -20,7 +20,7 @@ MODULES = {LIBRARY: "mkstrike_c", PROGRAM: "mkstrike"}  # of each module the cra
 SUPPORT, CALLS = "web/module.c", "c/calls.c"
 SOURCES = {LIBRARY: (SUPPORT, CALLS), PROGRAM: (SUPPORT,)}  # what is compiled beside the bitcode
 BUILT = {"mkstrike_c": prebuilt.ARCHIVE, "mkstrike": prebuilt.BUILT}  # what the kit makes of the crate's bitcode
-MOST = {LIBRARY: (230, 92), PROGRAM: (680, 260)}  # KiB of the module, and of it compressed
+MOST = {LIBRARY: (265, 104), PROGRAM: (680, 260)}  # KiB of the module, and of it compressed
 TARGET = ["--target=wasm64-unknown-unknown", "-mcpu=lime1", "-mllvm", "-expand-div-rem-bits=64", "-mllvm",
           "-expand-fp-convert-bits=64"]
 LINK = ["-flavor", "wasm", "-mwasm64", "--no-entry", "--stack-first", "-z", "stack-size=1048576", "--gc-sections",

@@ -1,5 +1,5 @@
 // What the controls ask for, what is said at them, and the address that keeps them. The other parts of the page stand on this one.
-import { lineOf, HINTED, DROPOUT_FONT, DROPOUTS, DONE, MOST_PPEM } from './mkstrike.js';
+import { lineOf, CAREFUL, HINTED, DROPOUT_FONT, DROPOUTS, DONE, MOST_PPEM } from './mkstrike.js';
 import { boxOf, charsOf, listOf, nameOf, shownName } from './outputs.js';
 import { KINDS } from './tables.js';
 
@@ -26,12 +26,12 @@ export const state = {
 
 // ---- the controls
 
-// A size and a mode as they are chosen, and those beside them, or null.
+// A size and a mode as they are chosen, and those beside them, or null. Each is careful: a font may be a stranger's.
 export function looks(ppem) {
-  const mode = ($('hinted').checked ? HINTED : 0) + DROPOUTS[$('dropout').value], rule = $('rule').value;
+  const dropout = DROPOUTS[$('dropout').value], mode = CAREFUL + ($('hinted').checked ? HINTED : 0) + dropout, rule = $('rule').value;
   const other = {
     hinted: { ppem, mode: mode ^ HINTED },
-    dropout: { ppem, mode: (mode & HINTED) + (mode > HINTED ? 0 : DROPOUT_FONT) },
+    dropout: { ppem, mode: mode - dropout + (dropout ? 0 : DROPOUT_FONT) },
     larger: { ppem: Math.min(ppem + 1, MOST_PPEM), mode },
     smaller: { ppem: Math.max(ppem - 1, 1), mode },
     none: null,
@@ -43,7 +43,7 @@ export function looks(ppem) {
 export const layout = () => ({ bytes: $('bytes').value, bits: $('bits').value, align: $('align').value, inFlash: $('flash').checked });
 
 export function wordsOf({ ppem, mode }) {
-  const dropout = Object.keys(DROPOUTS).find((it) => DROPOUTS[it] === (mode & ~HINTED));
+  const dropout = Object.keys(DROPOUTS).find((it) => DROPOUTS[it] === (mode & ~(HINTED | CAREFUL)));
   return `${ppem} pixels per em, ${mode & HINTED ? 'hinted' : 'unhinted'}${dropout === 'off' ? '' : `, drop-out control ${dropout}`}`;
 }
 

@@ -14,13 +14,14 @@ export const STRUCTS = {
   mkstrike_told: { bytes: 'u64', glyphs: 'u32', missing: 'u32', strays: 'u64', steps: 'u64' },
 };
 
-// A mode: 0, or a sum of these with at most one kind of drop-out control.
-export const HINTED = 0x001, DROPOUT = 0x002, DROPOUT_NEAR = 0x004, DROPOUT_FONT = 0x008;
+// A mode: 0, or a sum of these with at most one kind of drop-out control. With CAREFUL characters that take too much work are refused.
+export const HINTED = 0x001, DROPOUT = 0x002, DROPOUT_NEAR = 0x004, DROPOUT_FONT = 0x008, CAREFUL = 0x010;
 export const DROPOUTS = { off: 0, left: DROPOUT, near: DROPOUT_NEAR, font: DROPOUT_FONT }; // by the program's names
 const PACKED = 0x100; // pixels as bits, which all glyphs here have
 export const DONE = 0, MISSING = 1; // what calls return; any other number is a refusal
 export const NONE = 0xffffffff, FPGM = 0x10000, PREP = 0x10001; // in a refusal
 export const MOST_PPEM = 1024, MOST_BYTES = 67108864;
+const TOO_MUCH_WORK = 53; // a refusal that is told by its number alone
 const MOST_ROOM = 1 << 22; // bytes that a first call hands over at most; a second one hands over what the first asked for
 
 // Whether this engine can run the module: it has BigInt, and takes a module whose one function fills memory and widens a byte, which the
@@ -164,7 +165,11 @@ export class Mkstrike {
 
   // The refusal at an address, with its name and its advice.
   refusedAt(at) {
-    const refused = this.read('mkstrike_refused', at), { number } = refused;
+    return this.named(this.read('mkstrike_refused', at));
+  }
+
+  named(refused) {
+    const { number } = refused;
     if (!this.words.has(number)) this.words.set(number, { name: this.reason(number), advice: this.advice(number) });
     return { ...refused, ...this.words.get(number) };
   }
@@ -185,7 +190,7 @@ export class Mkstrike {
       const codes = take(new Uint8Array(Uint32Array.of(code).buffer)), id = take(2), refused = take(this.size('mkstrike_refused'));
       if (this.calls.mkstrike_glyph_ids(...this.ofFont(), codes, 1n, id, 1n, refused)) return {};
       const glyph = new Uint16Array(this.calls.memory.buffer, Number(id), 1)[0], told = take(this.size('mkstrike_outlined'));
-      const call = (points, room, ends, contours) => this.calls.mkstrike_outline(...this.ofFont(), ppem, mode & HINTED, glyph, points,
+      const call = (points, room, ends, contours) => this.calls.mkstrike_outline(...this.ofFont(), ppem, mode & (HINTED | CAREFUL), glyph, points,
         BigInt(room), ends, BigInt(contours), told, refused);
       if (call(0n, 0, 0n, 0)) return {};
       const counts = this.read('mkstrike_outlined', told), each = this.size('mkstrike_outline_point');
@@ -204,8 +209,9 @@ export class Mkstrike {
     return { x, y, on: on === 1 };
   }
 
-  // The refusal of one character, or null.
-  refusalOf(ppem, mode, code) {
+  // The refusal of one character that has a status, or null. The work is not done again if that was too much.
+  refusalOf(ppem, mode, code, status = 0) {
+    if (status === TOO_MUCH_WORK) return this.named({ number: status, glyph: NONE, during: NONE });
     return this.within((take) => {
       const refused = take(this.size('mkstrike_refused'));
       const status = this.calls.mkstrike_glyph(...this.ofFont(), ppem, mode | PACKED, code, 0n, 0n, 0n, refused);
@@ -231,7 +237,7 @@ export class Mkstrike {
       if (status) return { refused: this.refusedAt(refused) };
       const glyphs = Array.from(chars, (code, k) => ({ code, ...this.read('mkstrike_placed', entries + BigInt(k * entry)) }));
       const made = { glyphs, pixels: this.bytes(pixels, due).slice() };
-      for (const it of glyphs) if (it.status > MISSING) it.refused = this.refusalOf(ppem, mode, it.code);
+      for (const it of glyphs) if (it.status > MISSING) it.refused = this.refusalOf(ppem, mode, it.code, it.status);
       return made;
     });
   }

@@ -22,7 +22,7 @@ export interface Strike { text: Uint8Array; told: Told; refused?: undefined }
 export interface Outline { points: { x: number; y: number; on: boolean }[]; ends: number[]; advance: number }
 
 /** A mode is 0 or a sum of these, with at most one kind of drop-out control. */
-export const HINTED: 0x001, DROPOUT: 0x002, DROPOUT_NEAR: 0x004, DROPOUT_FONT: 0x008;
+export const HINTED: 0x001, DROPOUT: 0x002, DROPOUT_NEAR: 0x004, DROPOUT_FONT: 0x008, CAREFUL: 0x010;
 export const DROPOUTS: { off: 0; left: 0x002; near: 0x004; font: 0x008 };
 export const DONE: 0, MISSING: 1, NONE: 0xffffffff, FPGM: 0x10000, PREP: 0x10001, MOST_PPEM: 1024, MOST_BYTES: 67108864;
 

@@ -12,7 +12,7 @@ from collections.abc import Iterator, Sequence
 from ctypes import POINTER, byref, c_char, c_char_p, c_int32, c_size_t, c_uint16, c_uint32, c_uint64, c_void_p
 from functools import lru_cache
 
-from .refused import Refused
+from .refused import TOO_MUCH_WORK, Refused
 
 TYPE_CHECKING = False  # as in glyph.py
 if TYPE_CHECKING:
@@ -23,7 +23,7 @@ if TYPE_CHECKING:
 FILE, SONAME = "libmkstrike.so", "libmkstrike.so.1"  # beside this module, and of the system
 ABI = 1  # the form of structs and calls that is declared here: MKSTRIKE_ABI
 DONE, MISSING = 0, 1  # what a call returns, beside the numbers of refusals
-HINTED, DROPOUT = 1, {None: 0, False: 0, "off": 0, True: 2, "left": 2, "near": 4, "font": 8}  # the bits of a mode
+HINTED, CAREFUL, DROPOUT = 1, 16, {None: 0, False: 0, "off": 0, True: 2, "left": 2, "near": 4, "font": 8}  # the bits of a mode
 NONE = 0xFFFFFFFF  # in a refusal: no glyph, no program, no character
 PROGRAMS = {0x10000: "fpgm", 0x10001: "prep"}  # the programs that belong to no glyph
 MOST_SIZE, MOST_CODE, MOST_FACE, MOST_CHARS = 1024, 0x10FFFF, 0xFFFFFFFF, 0x10000
@@ -133,10 +133,10 @@ def _code(code: int) -> int:
     return code if 0 <= code <= MOST_CODE else NONE
 
 
-def mode_of(hinted: bool, dropout: bool | str | None) -> int:
+def mode_of(hinted: bool, dropout: bool | str | None, careful: bool) -> int:
     """The mode of the library."""
     try:
-        return (HINTED if hinted else 0) | DROPOUT[dropout]
+        return HINTED * bool(hinted) | CAREFUL * bool(careful) | DROPOUT[dropout]
     except (KeyError, TypeError):
         raise ValueError("dropout is 'font', 'left', 'near' or None, not %r" % (dropout,)) from None
 
@@ -247,23 +247,23 @@ def name(font: bytes, face: int, number: int) -> str:
 class Block:
     """A font that was opened at a size: hinted, its `fpgm` and `prep` have run. Any number of threads can use one."""
 
-    def __init__(self, font: bytes, face: int, size: int, hinted: bool) -> None:
-        self.size, self._given = size, (font, len(font), _face(face), _size(size))
+    def __init__(self, font: bytes, face: int, size: int, mode: int) -> None:
+        """With the bits of hinting and of care of a mode."""
+        self.size, self._given, self._mode = size, (font, len(font), _face(face), _size(size)), mode
         need, refused, room = c_size_t(0), _Refused(), WORDS
         while True:
             self._words = array("I", bytes(4 * room))
-            if _c().mkstrike_prepare(*self._given, HINTED * hinted, self._words.buffer_info()[0], room, byref(need),
-                                     byref(refused)):
+            if _c().mkstrike_prepare(*self._given, mode, self._words.buffer_info()[0], room, byref(need), byref(refused)):
                 raise _raised(refused, font)
             if need.value <= room:
                 break
             room = need.value
-        self._hinted, self._place = HINTED * hinted, self._words.buffer_info()
+        self._place = self._words.buffer_info()
         self._room = min(max(4096, 2 * self.size * self.size), MOST_ROOM)
 
     def _before(self, dropout: int) -> tuple[object, ...]:
         """The first arguments of a call by this block."""
-        return (*self._given, self._hinted | dropout, *self._place)
+        return (*self._given, self._mode | dropout, *self._place)
 
     def glyph(self, dropout: int, number: int, by_id: bool = False) -> Made | None:
         """A glyph, of a character or by its own number. None if the font lacks the character."""
@@ -312,7 +312,9 @@ class Block:
         """Which characters are refused, and why."""
         found: dict[int, Refused] = {}
         for code, status, _ in self.glyphs(dropout, codes, with_pixels=False):
-            if status != DONE:
+            if status == TOO_MUCH_WORK:
+                found[code] = Refused(status, reason(status), char=chr(code))
+            elif status != DONE:
                 try:
                     self.glyph(dropout, code)
                 except Refused as why:

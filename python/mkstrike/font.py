@@ -42,15 +42,18 @@ class Font:
     If no file has the name, as "DejaVu Sans:bold", fontconfig finds an installed font. `face` is the number of a font in a
     collection, from 0; `axes` chooses an instance of a variable font, as {"wght": 700}. fontTools unpacks WOFF2, makes these
     instances and converts CFF outlines, and must be installed for them. A file, and what is unpacked from it, has at most 64 MiB.
-    Nothing else is checked before a strike or a glyph is made.
+    Nothing else is checked before a strike or a glyph is made. `careful` is for fonts from strangers: a character that would take
+    too much work is refused by 53 `TooMuchWork`, so that each call ends soon (docs/LIMITS.md has the times).
 
     - `name`: the file's name without its ending
+    - `careful`: as it was given
     - `is_converted`: whether the font has CFF outlines, from which fontTools made others: at most 0.25 of 1,000 units away, and
       unhinted
     """
 
-    def __init__(self, source: sources.Source, *, face: int = 0, axes: Mapping[str, float] | None = None) -> None:
-        face = _library.whole(face, "face")
+    def __init__(self, source: sources.Source, *, face: int = 0, axes: Mapping[str, float] | None = None,
+                 careful: bool = False) -> None:
+        face, self.careful = _library.whole(face, "face"), bool(careful)
         source, face = sources.located(source, face)
         data, self.name = sources.read(source)
         self.data, self.face, self.is_converted = sources.plain(data, face, axes)
@@ -111,14 +114,14 @@ class Font:
 
     def _made(self, size: int, codes: list[int], hinted: bool, dropout: Dropout, name: str, refusing: Refusing) -> Strike:
         """The strike of code points. It is made again without those that are refused, which are drawn unhinted or left out."""
-        mode, encoded = _library.mode_of(hinted, dropout), name.encode("utf-8", "surrogateescape")
+        mode, encoded = self._mode(dropout, hinted), name.encode("utf-8", "surrogateescape")
         refused: dict[int, Refused] = {}
         try:
             text, told = _library.make(self.data, self.face, size, mode, codes, encoded)
         except Refused as why:
             if not why.is_of_character:
                 raise
-            refused = self._block(size, hinted).refused(_library.mode_of(False, dropout), codes)
+            refused = self._block(size, hinted).refused(self._mode(dropout), codes)
             if refusing == "refuse":
                 raise refused[min(refused)] from None
             text, told = _library.make(self.data, self.face, size, mode, [it for it in codes if it not in refused], encoded)
@@ -140,14 +143,18 @@ class Font:
         texts.
 
         Hinted, the font's `fpgm` and `prep` run once for a size; what they left is kept for later calls."""
-        return Striker(self, self._block(size, hinted), _library.mode_of(False, dropout))
+        return Striker(self, self._block(size, hinted), self._mode(dropout))
+
+    def _mode(self, dropout: Dropout, hinted: bool = False) -> int:
+        """A mode of the library; with care if the font is opened so."""
+        return _library.mode_of(hinted, dropout, self.careful)
 
     def _block(self, size: int, hinted: bool) -> _library.Block:
         """What the font is at a size, made once."""
         key = _library.whole(size, "size"), bool(hinted)
         block = self._blocks.get(key)
         if block is None:
-            block = _library.Block(self.data, self.face, *key)
+            block = _library.Block(self.data, self.face, key[0], self._mode(None, key[1]))
             if len(self._blocks) >= MOST_BLOCKS:
                 self._blocks.clear()
             self._blocks[key] = block
@@ -198,7 +205,7 @@ class Font:
         code = code_of(char)
         if code is None:
             raise TypeError("char is one character or a code point, not %r" % (char,))
-        return glyph_of(self._block(size, hinted), _library.mode_of(False, dropout), code)
+        return glyph_of(self._block(size, hinted), self._mode(dropout), code)
 
     def glyph_by_id(self, size: int, number: int, *, hinted: bool = True, dropout: Dropout = "font") -> Glyph:
         """Makes a glyph by its number, for programs that shape text: see `Striker.glyph`."""

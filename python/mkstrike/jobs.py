@@ -36,7 +36,7 @@ class Asked:
         self.rows = {it: both[it] for it in ("height", "cap_height") if it in both and not self.is_bdf}
         if len(self.rows) + bool(self.sizes) > 1:
             raise ValueError("--size, --height and --cap-height say the size: give one of them")
-        self.face, self.axes = both.get("face", 0), axes_of(both.get("axes", ""))
+        self.face, self.axes, self.careful = both.get("face", 0), axes_of(both.get("axes", "")), both.get("careful", False)
         self.chars, self.text = characters_of(own)
         self.shift = own.get("shift_y", 0)
         self.given: dict[int, int] | None = None  # its characters, once they are known
@@ -49,10 +49,10 @@ class Asked:
         if self.is_bdf:
             return Strike.open(self.path)
         if self.path == "-":
-            return Font(sources.read(sys.stdin.buffer)[0], face=self.face, axes=self.axes)
+            return Font(sources.read(sys.stdin.buffer)[0], face=self.face, axes=self.axes, careful=self.careful)
         source, face = sources.located(self.path, self.face)
         read.append(str(source))
-        return Font(source, face=face, axes=self.axes)
+        return Font(source, face=face, axes=self.axes, careful=self.careful)
 
     def part(self, source: Font | Strike, size: int) -> Part:
         """The part that it has in a strike of several."""

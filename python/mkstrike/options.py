@@ -108,6 +108,8 @@ TABLE = {
         Option("--face", "the font of a collection, from 0", inputs=(FONT,), outputs=EVERY, is_of_font=True, type=int, metavar="N"),
         Option("--axes", "the instance of a variable font, as wght=700",
                inputs=(FONT,), outputs=EVERY, is_of_font=True, metavar="TAG=N,.."),
+        Option("--careful", "for fonts from strangers: characters that take too much work are refused",
+               inputs=(FONT,), outputs=EVERY, is_of_font=True, const=True),
         Option("--refused", "characters that are refused are left out (leave-out, the default), drawn unhinted, or refuse the "
                             "strike",
                inputs=(FONT,), outputs=(*DRAWN, DIFF), is_of_font=True, choices=("leave-out", "unhinted", "refuse"),

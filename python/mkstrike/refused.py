@@ -4,7 +4,7 @@ from __future__ import annotations
 import os
 from functools import lru_cache
 
-NOT_TRUETYPE = 10
+NOT_TRUETYPE, TOO_MUCH_WORK = 10, 53
 
 
 def code_name(code: int) -> str:
@@ -56,10 +56,10 @@ class Refused(Exception):
 
     @property
     def is_of_character(self) -> bool:
-        """Whether other characters of the same font can be made."""
+        """Whether other characters of the same font may be made."""
         if self.during is not None:
             return isinstance(self.during, int)
-        return self.glyph is not None
+        return self.glyph is not None or self.number == TOO_MUCH_WORK
 
     @property
     def advice(self) -> str:

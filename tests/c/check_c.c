@@ -31,13 +31,14 @@ struct request {
 };
 
 /* A mode by the names of the header. Its letters are h for hinted; d, n or f for drop-out control: by left pixels, by the nearer
-   ones, and as the font asks; and x for the properties of X11. */
+   ones, and as the font asks; c for bounded work; and x for the properties of X11. */
 static uint32_t mode_of(const char *letters) {
     uint32_t mode = 0;
     for (; *letters != 0; letters++)
         mode |= *letters == 'h'   ? MKSTRIKE_HINTED
                 : *letters == 'd' ? MKSTRIKE_DROPOUT
                 : *letters == 'n' ? MKSTRIKE_DROPOUT_NEAR
+                : *letters == 'c' ? MKSTRIKE_CAREFUL
                 : *letters == 'x' ? MKSTRIKE_X11
                                   : MKSTRIKE_DROPOUT_FONT;
     return mode;

@@ -53,7 +53,7 @@ DAMAGED, SEED, LONG = 150, 41, os.environ.get("MKSTRIKE_LONG")
 SECONDS = 180  # that `rt lib` may take
 STACK = 25 << 9  # bytes that docs/LIBRARY.md promises to be enough for a call, beside those of memcpy and malloc
 # A mode is the letters of its bits, which check_c.c takes by the names of include/mkstrike.h.
-HINTED, DROPOUT, NEAR, ASKED, X11 = "h", "d", "n", "f", "x"
+HINTED, DROPOUT, NEAR, ASKED, CAREFUL, X11 = "h", "d", "n", "f", "c", "x"
 MODES = [hinted + closed for closed in ("", DROPOUT, NEAR, ASKED) for hinted in ("", HINTED)]
 EXAMPLES = HINTED + ASKED
 
@@ -75,6 +75,7 @@ def flags(mode):
     """The flags of mkstrike for a mode of the library."""
     closed = (["--dropout"] if DROPOUT in mode else ["--dropout=near"] if NEAR in mode else ["--dropout=font"] if ASKED in mode
               else [])
+    closed += ["--careful"] if CAREFUL in mode else []
     return ([] if HINTED in mode else ["--unhinted"]) + closed + (["--x11"] if X11 in mode else [])
 
 
@@ -289,7 +290,7 @@ def test_strikes(lib):
             for mode, first, last in ((HINTED, 0x20, 0x17F), (HINTED, 0x251, 0xFFFF), ("", 0, 0xFFFF), ("", 0x10000, 0x1FFFF),
                                       (DROPOUT, 0x20, 0x17F), (HINTED + DROPOUT, 0x20, 0x17F), (HINTED + NEAR, 0x20, 0x17F),
                                       (ASKED, 0x20, 0x17F), (HINTED + ASKED, 0x20, 0x17F), (X11, 0x20, 0x7E),
-                                      (HINTED + X11, 0x20, 0x17F)):
+                                      (HINTED + X11, 0x20, 0x17F), (HINTED + ASKED + CAREFUL, 0x20, 0x17F)):
                 lib.same(font, ppem, mode, first, last)
 
 
@@ -334,7 +335,7 @@ def test_requests(calls):
     font, placed, drawn = fonts.FIXTURE, ctypes.create_string_buffer(65537 * 40), _library._Drawn()
     for count, last, ppem, mode, length, due in (
             (65537, 0x20, 16, 0, len(font), 61), (65537, 0x20, 16, 0, 0, 61), (65537, 0x20, 0, 0, 0, 60),
-            (65537, 0x20, 0, 16, 0, 64), (65536, 0x20, 16, 0, 0, 10), (65536, 0x20, 16, 0, len(font), 0),
+            (65537, 0x20, 0, 32, 0, 64), (65536, 0x20, 16, 0, 0, 10), (65536, 0x20, 16, 0, len(font), 0),
             (65536, 0x110000, 16, 0, len(font), 61), (0, 0, 16, 0, len(font), 0)):
         chars = array("I", [0x20]) * max(count - 1, 0) + array("I", [last])
         status = calls.c.mkstrike_glyphs(font, length, 0, ppem, mode, chars.buffer_info()[0], count, placed, count, None, 0,
@@ -670,6 +671,15 @@ def test_console(lib, ppem, line):
         raise Wrong("examples/console.c says of a cut line: %s" % done.stderr.decode())
 
 
+def test_console_of_large_fonts(lib):
+    """A font that fills the buffer of examples/console.c may go on after it, and is refused."""
+    font = lib.at("large.ttf")
+    shutil.copyfile(lib.letters(), font)
+    for size, status, said in ((8388607, 0, b"memory "), (8388608, 1, b"console: the font has more than 8388607 bytes\n")):
+        os.truncate(font, size)
+        assert run([lib.at("console"), font, "16", "A"], status=status).stderr.startswith(said)
+
+
 def test_console_in_its_frame(lib):
     """AddressSanitizer sees no pixel outside the frame."""
     font = lib.letters()
@@ -679,22 +689,23 @@ def test_console_in_its_frame(lib):
         run([lib.at("console_asan"), font, str(ppem), line])
 
 
-def test_console_of_utf_8(lib):
-    """What examples/console.c takes for characters: each of these has a width of its own, and what is no UTF-8 is a box for each
-    byte."""
+@pytest.mark.parametrize("more", [[], [0xFFFD]])
+def test_console_of_utf_8(lib, more):
+    """What examples/console.c takes for characters: each of these has a width of its own, and each byte of what is no UTF-8 is
+    U+FFFD, or a box if the font lacks that."""
     square = fonts.simple([[(0, 0, 1), (0, 500, 1), (500, 500, 1), (500, 0, 1)]])
-    codes = [0x41, 0x7F, 0x80, 0x7FF, 0x800, 0xFFF, 0x1000, 0xD7FF, 0xE000, 0xFFFF, 0x10000, 0x10FFFF]
-    font = lib.at("utf-8.ttf")
-    with open(font, "wb") as file:  # at 10 pixels an em the k-th has an advance of k + 10
+    codes = sorted([0x41, 0x7F, 0x80, 0x7FF, 0x800, 0xFFF, 0x1000, 0xD7FF, 0xE000, 0xFFFF, 0x10000, 0x10FFFF] + more)
+    font, widths = lib.at("utf-8.ttf"), {code: k + 10 for k, code in enumerate(codes)}
+    with open(font, "wb") as file:  # at 10 pixels an em
         file.write(fonts.font_of([b""] + [square] * len(codes), fonts.wide_map_of([(code, k + 1) for k, code in enumerate(codes)]),
-                                 metrics=[(1000, 0)] + [(100 * (k + 10), 0) for k in range(len(codes))]))
-    texts = [(chr(code).encode(), k + 10) for k, code in enumerate(codes)]
-    box = 10 // 2 + 3
+                                 metrics=[(1000, 0)] + [(100 * widths[code], 0) for code in codes]))
+    texts = [(chr(code).encode(), widths[code]) for code in codes]
+    box = widths.get(0xFFFD, 10 // 2 + 3)
     wrong = ("C1 BF", "C0 80", "E0 9F BF", "F0 8F BF BF", "ED A0 80", "ED BF BF", "F4 90 80 80", "F5 80 80 80", "FF", "80", "C2",
              "E0 A0",
              "F0 90 80")
     texts += [(bytes.fromhex(it), box * len(it.split())) for it in wrong]
-    texts += [(b"\xe0\xa0A", 2 * box + 10), (b"A" + "\u0fff".encode() + b"A", 10 + 15 + 10)]
+    texts += [(b"\xe0\xa0A", 2 * box + 10), (b"A" + "\u0fff".encode() + b"A", 10 + widths[0xFFF] + 10)]
     for text, due in texts:
         width = picture_of(run([lib.at("console"), font, "10", text]).stdout)[0]
         if width != due:
@@ -793,7 +804,9 @@ def test_numbers_of_show(lib):
         assert run([lib.at("show"), path, "16", word]).stderr == counts
     for word in ("44-43", "44-110000", "44-", "-44"):
         assert run([lib.at("show"), path, "16", word], status=2).stderr.startswith(b"usage: show ")
-    assert run([lib.at("show"), path, "16", "42"], status=1).stderr == b"refused: 1 Missing\n"
+    for size, word, said in (("16", "42", b"1 Missing"), ("0", "41-42", b"60 BadSize"), ("65535", "41-42", b"60 BadSize")):
+        assert run([lib.at("show"), path, size, word], status=1).stderr == b"refused: %s\n" % said
+    assert run([lib.at("show"), path, "65536", "41-42"], status=2).stderr.startswith(b"usage: show ")
 
 
 def rows_only(out):

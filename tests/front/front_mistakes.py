@@ -136,6 +136,7 @@ ROWS = [
     ("--char for make", ["make", "--ppem", "16", "--char", "41"], SANS, 2, USAGE,
      "unknown option '--char'; did you mean '--chars'?"),
     ("--unhintd", ["--unhintd"], SANS, 2, USAGE, "did you mean '--unhinted'?"),
+    ("--carefull", ["--carefull"], SANS, 2, USAGE, "did you mean '--careful'?"),
     ("= form", ["make", "--ppem=16", "--chars=41"], SANS, 0, COUNTS, ""),
     ("flag with =", ["--unhinted=1"], SANS, 2, USAGE, "--unhinted takes no value"),
     ("duplicate --ppem", ["--ppem", "16"], SANS, 2, USAGE, "--ppem is given twice"),

@@ -12,7 +12,7 @@ import re
 from prebuilt import libraries_of_crates, structs_of_header
 
 # What is left of older times: how many findings of a rule there may be. A number here only ever goes down.
-LEFT = {"lines_short": 1, "lemmas_named_once": 1, "twice": 6}  # four of these: one sweep for fx_zone and fx_moves is due
+LEFT = {"lemmas_named_once": 1, "twice": 6}  # four of these: one sweep for fx_zone and fx_moves is due
 
 # The crates below `fx_raster` and the types by which they find pixels: `fx_strike` and `fx_views` name none of them.
 RASTER = re.compile(r"\b(fx_winding|fx_rows|fx_dropout|fx_contour|Pieces|Noted|Tally)\b")
@@ -64,6 +64,7 @@ CONSTANTS = {
     "DROPOUT": ("mode.rt", r"mode / (\w+) % 2 == 1 \{\s+return Dropout::Left;"),
     "DROPOUT_NEAR": ("mode.rt", r"mode / (\w+) % 2 == 1 \{\s+return Dropout::Near;"),
     "DROPOUT_FONT": ("mode.rt", r"mode / (\w+) % 2 == 1 \{\s+return Dropout::Font;"),
+    "CAREFUL": ("mode.rt", r"careful: mode / (\w+) % 2 == 1"),
     "PACKED": ("mode.rt", r"fn is_packed[^{]*\{[^}]*\}\s*\{\s+mode / (\w+) % 2 == 1"),
     "X11": ("mode.rt", r"fn is_x11[^{]*\{[^}]*\}\s*\{\s+mode / (\w+) % 2 == 1"),
     "NONE": ("refused.rt", r"const NONE: u32 = (\w+);"),

@@ -161,6 +161,11 @@ ENDFONT
 """
 
 
+def test_counted():
+    """A strike has one glyph, if nothing else is said."""
+    assert due.counted() == LINE and due.counted(2, 1, 3, 4) == TOLD % (b"3", b"4")
+
+
 def test_strike():
     """A strike of two glyphs: its text, and its line with the counts of all."""
     font = collections.namedtuple("Font", "upem ascender descender")(2000, 1600, -500)

@@ -74,6 +74,7 @@ enum {
 #define MKSTRIKE_DROPOUT UINT32_C(0x002)
 #define MKSTRIKE_DROPOUT_NEAR UINT32_C(0x004)
 #define MKSTRIKE_DROPOUT_FONT UINT32_C(0x008)
+#define MKSTRIKE_CAREFUL UINT32_C(0x010)
 #define MKSTRIKE_PACKED UINT32_C(0x100)
 #define MKSTRIKE_X11 UINT32_C(0x200)
 #define MKSTRIKE_NONE UINT32_C(0xFFFFFFFF)
@@ -103,6 +104,7 @@ if mode / 2 % 2 == 1 {
     return Dropout::Left;
 }
 hinting: mode % 2 == 1,
+careful: mode / 16 % 2 == 1,
 /// Packed.
 pub fn is_packed(mode: u32) -> bool
     ensures { result ≡ is_packed mode }

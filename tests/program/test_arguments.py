@@ -33,19 +33,20 @@ VALID = (
     "show|--hex|--char=0000fF|--unhinted|--ppem=0", "show|--ppem|1025|--char|110000", "make|--face|0|--ppem|0|--chars|41",
     "make|--ppem|0|--chars|41|--face|4294967295",
     "show|--ppem|0|--char|41|--face=00007", "show|--face|+7|--ppem|0|--char|41",
-    "make|--ppem|0|--all", "make|--all|--name=a|--ppem=0|--hex")
+    "make|--ppem|0|--all", "make|--all|--name=a|--ppem=0|--hex", "make|--careful|--ppem|0|--chars|41",
+    "show|--ppem|0|--char|41|--careful", "outline|--careful|--ppem|0|--glyph|0", "trace|--ppem|0|--of|fpgm|--careful")
 
 # every option, but those that may be given more than once
-WHOLE = "make|--ppem|16|--chars|41|--name|F1|--x11|--dropout|--unhinted|--hex"
+WHOLE = "make|--ppem|16|--chars|41|--name|F1|--x11|--dropout|--unhinted|--careful|--hex"
 
 # Arguments that are not valid.
 NOT_VALID = (
     "make", "", "Make", "x|" + WHOLE, "make|--ppem|16", "make|--ppem|16|--chars", "make|--chars|41", "--ppem|16|--chars|41",
-    *(WHOLE + more for more in ("|x|y", "|", "|-|-", "|--|x|y", "|--unhinted", "|--x11", "|--hex")),
+    *(WHOLE + more for more in ("|x|y", "|", "|-|-", "|--|x|y", "|--unhinted", "|--careful", "|--x11", "|--hex")),
     *("make|--ppem|16|--chars|41|" + more for more in (
         "--ppem|16", "--chars|41", "--name", "--name|-x", "--name|-|--hex", "--unhinted=yes", "--hex=", "--x11=1", "--X11",
-        "--version", "--char|41", "--of|prep", "--unhint", "font|more", "-o", "-o|a|-o|b", "--property", "--property|A",
-        "--property=A", "--property=", "--property|-B=1")),
+        "--careful=1", "--version", "--char|41", "--of|prep", "--unhint", "font|more", "-o", "-o|a|-o|b", "--property",
+        "--property|A", "--property=A", "--property=", "--property|-B=1")),
     *("make|--chars|41|--ppem|" + size for size in ("65536", "-1", "1.0", "", "16x", " 16", "0x10", "99999999999999999999")),
     "make|--ppem|16|--chars|-41", "make|--ppem|16|--chars|--hex", "show", "show|--ppem|16", "show|--char|41",
     "show|--ppem|16|--chars|41", "show|--ppem|16|--char|41|42|43", "show|--ppem|65536|--char|41", "show|--ppem|16|--char|41|--x11",
@@ -69,7 +70,9 @@ NOT_VALID = (
     "outline|--ppem|0|--glyph|0|--dropout", "outline|--ppem|65536|--glyph|0", "make|--ppem|0|--glyph|0",
     "make|--ppem|0|--all|--chars|41", "make|--chars=|--ppem|0|--all", "make|--ppem|0|--all|--all",
     "make|--ppem|0|--all=", "show|--ppem|0|--all", "make|--ppem|0|--hex", "make|--ppem|0|--char|41|--all",
-    "faces|--ppem|16", "faces|--face|0", "faces|x|y", "faces|--hex=1", "Faces", "face")
+    "faces|--ppem|16", "faces|--face|0", "faces|x|y", "faces|--hex=1", "Faces", "face", "faces|--careful",
+    "show|--ppem|0|--char|41|--careful|--careful", "outline|--ppem|0|--glyph|0|--careful=", "trace|--ppem|0|--of|fpgm|--careful=no",
+    "dump|--of|prep|--careful")
 
 
 def command_lines():

@@ -22,7 +22,7 @@ WORDS = {
     "cell": ["--cell", "7x12"], "ascent": ["--ascent", "11"], "clip": ["--clip"], "join": ["--join"], "wide": ["--wide"],
     "shift_y": ["--shift-y", "2"],
     "unhinted": ["--unhinted"], "dropout": ["--dropout=off"], "face": ["--face", "1"], "axes": ["--axes", "wght=700"],
-    "refused": ["--refused", "unhinted"],
+    "careful": ["--careful"], "refused": ["--refused", "unhinted"],
     "out": ["--out", "folder"], "format": ["--format", "pbm"], "order": ["--order", "koi8-r"], "preview": ["--preview", "B2"],
     "name": ["--name", "other"],
     "x11": ["--x11"], "property": ["--property", "FAMILY_NAME=Other"], "scale": ["--scale", "3"], "columns": ["--columns", "5"],
@@ -35,6 +35,7 @@ WORDS = {
     "require": ["--require"], "strict": ["--strict"], "quiet": ["--quiet"], "font": ["--font", "in.bdf"],
     "jobs": ["--jobs", "2"], "depfile": ["--depfile", "it.d"],
 }
+SILENT = ("jobs", "careful")  # options that change nothing of these inputs: their fonts take little work
 # Options that are in effect already, for these outputs: these formats always have the properties, and a sheet shows no cells.
 SAME = {("x11", it) for it in ("pcf", "otb", "psf")} | {("jobs", "otb")}  # fonttosfnt writes the time of day
 BESIDE = {"align": ["--bytes", "columns"]}  # words for which an option makes a difference
@@ -74,7 +75,7 @@ def test_each_has_words():
 @pytest.mark.parametrize("output", OUTPUTS)
 @pytest.mark.parametrize("kind", INPUTS)
 def test_pairs(folder, kind, output):
-    """No option is ignored; --jobs alone changes nothing of what is made and said."""
+    """No option is ignored; --jobs, and --careful for these fonts, change nothing of what is made and said."""
     ignored = []
     asked = [] if output in WITHOUT_CHARS else ["--chars", LETTERS]
     for name, words in WORDS.items():
@@ -91,7 +92,7 @@ def test_pairs(folder, kind, output):
             continue  # an error that is told
         if base[0] == 1 and found[0] == 1:
             continue
-        if (found == base) == (name != "jobs") and (name, output) not in SAME:
+        if (found == base) == (name not in SILENT) and (name, output) not in SAME:
             ignored.append(words + before + INPUTS[kind])
     assert not ignored
 

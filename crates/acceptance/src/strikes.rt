@@ -7,12 +7,14 @@ use fx_strike::Title;
 pub const UNHINTED: Mode = Mode {
     hinting: false,
     dropout: Dropout::Off,
+    careful: false,
 };
 
 /// Hinting alone.
 pub const HINTED: Mode = Mode {
     hinting: true,
     dropout: Dropout::Off,
+    careful: false,
 };
 
 /// A name alone.

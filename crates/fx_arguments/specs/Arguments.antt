@@ -58,24 +58,28 @@ choice_rule id value = record (new_rule id) {
 abbrev pub dropout_rule : Rule
 dropout_rule = choice_rule (codes "dropout") (codes "left")
 
+-- the option `--careful`
+abbrev pub careful_rule : Rule
+careful_rule = flag_rule (codes "careful")
+
 -- the command `make` with its options
 unfoldable pub make_app : App
 make_app = fold with_rule (new_app (codes "make"))
     (option_rule (codes "ppem") ∷ option_rule (codes "chars") ∷ option_rule (codes "name") ∷ many_rule (codes "property") ∷
-    flag_rule (codes "x11") ∷ option_rule (codes "refused") ∷ flag_rule (codes "unhinted") ∷ dropout_rule ∷
+    flag_rule (codes "x11") ∷ option_rule (codes "refused") ∷ flag_rule (codes "unhinted") ∷ dropout_rule ∷ careful_rule ∷
     option_rule (codes "face") ∷ flag_rule (codes "hex") ∷ flag_rule (codes "all") ∷ [])
 
 -- the command `show` with its options
 unfoldable pub show_app : App
 show_app = fold with_rule (new_app (codes "show"))
     (option_rule (codes "ppem") ∷ option_rule (codes "char") ∷ option_rule (codes "glyph") ∷ flag_rule (codes "unhinted") ∷
-    dropout_rule ∷ option_rule (codes "face") ∷ flag_rule (codes "hex") ∷ [])
+    dropout_rule ∷ careful_rule ∷ option_rule (codes "face") ∷ flag_rule (codes "hex") ∷ [])
 
 -- the command `outline` with its options
 unfoldable pub outline_app : App
 outline_app = fold with_rule (new_app (codes "outline"))
     (option_rule (codes "ppem") ∷ option_rule (codes "char") ∷ option_rule (codes "glyph") ∷ flag_rule (codes "unhinted") ∷
-    option_rule (codes "face") ∷ flag_rule (codes "hex") ∷ [])
+    careful_rule ∷ option_rule (codes "face") ∷ flag_rule (codes "hex") ∷ [])
 
 -- the command `dump` with its options
 unfoldable pub dump_app : App
@@ -86,7 +90,7 @@ dump_app = fold with_rule (new_app (codes "dump"))
 unfoldable pub trace_app : App
 trace_app = fold with_rule (new_app (codes "trace"))
     (option_rule (codes "ppem") ∷ option_rule (codes "char") ∷ option_rule (codes "glyph") ∷ option_rule (codes "of") ∷
-    option_rule (codes "face") ∷ flag_rule (codes "hex") ∷ [])
+    careful_rule ∷ option_rule (codes "face") ∷ flag_rule (codes "hex") ∷ [])
 
 -- the command `faces` with its option
 unfoldable pub faces_app : App
@@ -136,11 +140,15 @@ abbrev pub dropout_by : Option Text → Result Dropout WrongView
 dropout_by None = Ok Off
 dropout_by (Some text) = wanted (named_dropout text) (not_taken (codes "--dropout takes left, near or font") text)
 
+-- a character that takes too much work is refused if `--careful` was given
+abbrev pub is_careful : List Row → Bool
+is_careful rows = is_given (codes "careful") rows
+
 -- how outlines become pixels: the font's programs run unless `--unhinted` was given
 abbrev pub mode_by : List Row → Result Mode WrongView
 mode_by rows = do
   dropout ← dropout_by (first_of (codes "dropout") rows)
-  Ok (record { hinting = not (is_given (codes "unhinted") rows); dropout = dropout })
+  Ok (record { hinting = not (is_given (codes "unhinted") rows); dropout = dropout; careful = is_careful rows })
 
 -- a size that is required
 abbrev pub size_by : Option Text → Result ℕ WrongView
@@ -269,7 +277,11 @@ trace_by rows = do
   face ← face_by (first_of (codes "face") rows)
   ppem ← size_by (first_of (codes "ppem") rows)
   traced ← traced_by (first_of (codes "char") rows) (first_of (codes "glyph") rows) (first_of (codes "of") rows)
-  Ok (record { task = trace (record { ppem = ppem; traced = traced }); face = face; hex = is_given (codes "hex") rows })
+  Ok (record {
+    task = trace (record { ppem = ppem; traced = traced; careful = is_careful rows });
+    face = face;
+    hex = is_given (codes "hex") rows;
+  })
 
 -- what the value of `faces`'s option asks for: all faces of the file, so none is chosen
 abbrev pub faces_by : List Row → Result CommandView WrongView

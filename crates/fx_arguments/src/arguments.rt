@@ -3,7 +3,7 @@ ghost use Rattle.std.specs.Prelude.{◌≡◌, Ok, Some, codes, drop, option_map
 ghost use Rattle.clap.specs.Words.{first_of, found_of, rows_of};
 ghost use Rattle.fx_fixed.specs.Chain.{GivesUnless, wanted};
 ghost use Rattle.fx_arguments.specs.Arguments.{asked_for, characters_by, choice_by, dropout_by, dump_by, face_by, glyph_by, is_command};
-ghost use Rattle.fx_arguments.specs.Arguments.{is_given, make_by, manner_by, mode_by, one_way, program_by, refused_by, size_by, texts, trace_by, traced_by};
+ghost use Rattle.fx_arguments.specs.Arguments.{is_careful, is_given, make_by, manner_by, mode_by, one_way, program_by, refused_by, size_by, texts, trace_by, traced_by};
 ghost use Rattle.fx_arguments.specs.CommandLine.{command_by, command_of, command_of_explain};
 ghost use Rattle.fx_arguments.specs.Commands.{Refuses, seen, seen_characters, seen_task};
 ghost use Rattle.fx_arguments.specs.Wrong.{Reads, not_taken};
@@ -135,6 +135,13 @@ fn dropout_by(name: Option<&str>) -> Result<Dropout, Wrong<'_>>
     }
 }
 
+/// Whether a character that takes too much work is refused.
+fn is_careful(matches: &ArgMatches<'_>) -> bool
+    ensures { result ≡ is_careful (rows_of (found_of matches.now)) }
+{
+    is_given(matches, "careful")
+}
+
 /// How outlines become pixels, by the options of `make`, `show` and `outline`.
 fn mode_of<'a>(matches: &ArgMatches<'a>) -> Result<Mode, Wrong<'a>>
     ensures { Reads (λ mode. mode) result (mode_by (rows_of (found_of matches.now))) }
@@ -143,6 +150,7 @@ fn mode_of<'a>(matches: &ArgMatches<'a>) -> Result<Mode, Wrong<'a>>
     Ok(Mode {
         hinting: !is_given(matches, "unhinted"),
         dropout,
+        careful: is_careful(matches),
     })
 }
 
@@ -300,7 +308,13 @@ fn trace_of<'a>(matches: &ArgMatches<'a>) -> Result<Command<'a>, Wrong<'a>>
         value(matches, "glyph"),
         value(matches, "of"),
     )?;
-    Ok(command_for(matches, face, Task::Trace(Trace { ppem, traced })))
+    let careful = is_careful(matches);
+    let trace = Trace {
+        ppem,
+        traced,
+        careful,
+    };
+    Ok(command_for(matches, face, Task::Trace(trace)))
 }
 
 /// What is traced: a glyph, or a program by its name, and not both.

@@ -84,9 +84,10 @@ impl<'a> Make<'a> {
     }
 }
 
-/// A trace: the size in pixels an em, and what is traced.
+/// A trace: the size in pixels an em, what is traced, and whether programs that do too much work are refused.
 #[derive(Clone, Copy)]
 pub struct Trace {
     pub ppem: u16,
     pub traced: TraceSubject,
+    pub careful: bool,
 }

@@ -22,7 +22,7 @@ pub enum Takes {
 }
 
 /// The options of `make`.
-const MAKE: [(&str, Takes); 11] = [
+const MAKE: [(&str, Takes); 12] = [
     ("ppem", Takes::Value),
     ("chars", Takes::Value),
     ("name", Takes::Value),
@@ -31,28 +31,31 @@ const MAKE: [(&str, Takes); 11] = [
     ("refused", Takes::Value),
     ("unhinted", Takes::Nothing),
     ("dropout", Takes::Choice),
+    ("careful", Takes::Nothing),
     ("face", Takes::Value),
     ("hex", Takes::Nothing),
     ("all", Takes::Nothing),
 ];
 
 /// The options of `show`.
-const SHOW: [(&str, Takes); 7] = [
+const SHOW: [(&str, Takes); 8] = [
     ("ppem", Takes::Value),
     ("char", Takes::Value),
     ("glyph", Takes::Value),
     ("unhinted", Takes::Nothing),
     ("dropout", Takes::Choice),
+    ("careful", Takes::Nothing),
     ("face", Takes::Value),
     ("hex", Takes::Nothing),
 ];
 
 /// The options of `outline`.
-const OUTLINE: [(&str, Takes); 6] = [
+const OUTLINE: [(&str, Takes); 7] = [
     ("ppem", Takes::Value),
     ("char", Takes::Value),
     ("glyph", Takes::Value),
     ("unhinted", Takes::Nothing),
+    ("careful", Takes::Nothing),
     ("face", Takes::Value),
     ("hex", Takes::Nothing),
 ];
@@ -65,11 +68,12 @@ const DUMP: [(&str, Takes); 3] = [
 ];
 
 /// The options of `trace`.
-const TRACE: [(&str, Takes); 6] = [
+const TRACE: [(&str, Takes); 7] = [
     ("ppem", Takes::Value),
     ("char", Takes::Value),
     ("glyph", Takes::Value),
     ("of", Takes::Value),
+    ("careful", Takes::Nothing),
     ("face", Takes::Value),
     ("hex", Takes::Nothing),
 ];

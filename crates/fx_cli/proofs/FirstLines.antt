@@ -1,7 +1,7 @@
 -- The line of the input that has the arguments ends where its end was found: `length-line_of`.
 -- Serves `read_line_and_do`, and `run` of `Mkstrike`.
 use Rattle.std.proofs.Common.{◌≡◌, ◌∙◌, ◌==◌, ◌⊎◌, inl, inr, ℕ, ◌+◌, ◌<◌, ◌≤◌, List, [], ◌∷◌, ◌++◌, length, take, drop}
-use Rattle.std.proofs.Common.{not, refl, sym, ap, subst, arith, Option, Bool, true, false, cond, Result, Ok, Err}
+use Rattle.std.proofs.Common.{not, refl, sym, ap, arith, Option, Bool, true, false, cond, Result, Ok, Err}
 use Rattle.std.proofs.Common.{append-nil, length-append, Bor}
 use Rattle.std.proofs.lemmas.List.Sums.{prefix_len-le-length}
 use Rattle.std.specs.Str.{IsUtf8}
@@ -26,9 +26,11 @@ use Rattle.fx_arguments.specs.Commands.{CommandView, Refuses}
 use Rattle.fx_arguments.specs.ReadAhead.{ahead_of, nothing_ahead}
 use Rattle.fx_arguments.specs.Input.{line_of, rest_of, arguments_of_line}
 use Rattle.fx_cli.specs.Runs.{AreArguments, Ends, HasLine, IsReadForArguments, IsReason, IsSpared}
-use Rattle.fx_cli.specs.Runs.{IsUnread, Completes, Stops, font_bytes, has_arguments, called, text_of}
+use Rattle.fx_cli.specs.Runs.{Completes, Stops, font_bytes, has_arguments, called, text_of}
 use Rattle.clap.specs.Walk.{Text}
-use Rattle.fx_cli.specs.Steps.{EndsAfter, EndsFrom, IsReasonAfter, CompletesAfter, StopsAfter}
+use Rattle.fx_cli.specs.Seen.{unseen}
+use Rattle.fx_cli.specs.Steps.{EndsAfter, EndsFrom, IsReasonAfter, CompletesAfter, RefusesGiven, StopsAfter}
+use Rattle.fx_cli.specs.declared.watch.Watch.{Watch}
 
 abbrev is_end : ℕ → Bool
 is_end b = b == 10
@@ -115,12 +117,13 @@ abbrev pub from_start : Option (List ℕ) → ℕ → Change → Change
 from_start before faults_before source = record source { bytes_before = before; faults_before = faults_before }
 
 does : {given : List Text} {first : List ℕ} {before : Option (List ℕ)} {arguments : List Text}
-    (faults_before : ℕ) (command : CommandView) (source sink : Change) (told : List Notice) (answer : Result Done Refusal)
+    (faults_before : ℕ) (command : CommandView) (source sink : Change) (told : List Notice) (watch : Watch)
+    (answer : Result Done Refusal)
     → faults_before ≡ source.faults_before
     → IsFirst given first before source.bytes_before arguments → command_of arguments ≡ Ok command
-    → CompletesAfter command (ahead_of first) source sink told answer
-    → Completes given (from_start before faults_before source) sink told answer
-does {given} {first} {before} {arguments} faults_before command source sink told answer same f asks m = record {
+    → CompletesAfter command (ahead_of first) source sink told watch answer
+    → Completes given (from_start before faults_before source) sink told watch answer
+does {given} {first} {before} {arguments} faults_before command source sink told watch answer same f asks m = record {
   input = first ++ m.more;
   read = Consumes-trans before source.bytes_before source.bytes first m.more f.read m.read;
   whole = m.whole;
@@ -133,6 +136,7 @@ does {given} {first} {before} {arguments} faults_before command source sink told
   font = m.font;
   decoded = ap (font_bytes command.hex) (text_is m.more f m.rest) ∙ m.decoded;
   leaves = m.leaves;
+  seen = m.seen;
 }
 
 reasons : {given : List Text} {first : List ℕ} {before : Option (List ℕ)} {arguments : List Text}
@@ -156,82 +160,89 @@ reasons faults_before command source more same f asks rest OutOfMemory h = tt
 reasons faults_before command source more same f asks rest _ h = absurd h
 
 stops : {given : List Text} {first : List ℕ} {before : Option (List ℕ)} {arguments : List Text}
-    (faults_before : ℕ) (command : CommandView) (source sink : Change) (told : List Notice) (refusal : Refusal)
+    (faults_before : ℕ) (command : CommandView) (source sink : Change) (told : List Notice) (watch : Watch) (refusal : Refusal)
     → faults_before ≡ source.faults_before
     → IsFirst given first before source.bytes_before arguments → command_of arguments ≡ Ok command
-    → StopsAfter command (ahead_of first) source sink told refusal
-    → Stops given (from_start before faults_before source) sink told (Early refusal)
-stops {given} {first} {before} {arguments} faults_before command source sink told refusal same f asks s = record {
+    → StopsAfter command (ahead_of first) source sink told watch refusal
+    → Stops given (from_start before faults_before source) sink told watch (Early refusal)
+stops {given} {first} {before} {arguments} faults_before command source sink told watch refusal same f asks s = record {
   got = first ++ s.more;
   read = Consumes-trans before source.bytes_before source.bytes first s.more f.read s.read;
   spared = s.spared;
   silent = s.silent;
+  unseen = s.unseen;
   reason = reasons faults_before command source s.more same f asks s.rest refusal s.reason;
 }
 
 -- the run after the line ends the run
 line_ends : {given : List Text} {first : List ℕ} {before : Option (List ℕ)} {arguments : List Text}
-    (faults_before : ℕ) (command : CommandView) (source sink : Change) (told : List Notice) → faults_before ≡ source.faults_before
+    (faults_before : ℕ) (command : CommandView) (source sink : Change) (told : List Notice) (watch : Watch)
+    → faults_before ≡ source.faults_before
     → IsFirst given first before source.bytes_before arguments → command_of arguments ≡ Ok command
-    → (outcome : Result Done Fault) → EndsAfter command (ahead_of first) source sink told outcome
-    → Ends given (from_start before faults_before source) sink told outcome
-line_ends faults_before command source sink told same f asks (Ok done) m =
-    does faults_before command source sink told (Ok done) same f asks m
-line_ends faults_before command source sink told same f asks (Err (Late refusal)) m =
-    does faults_before command source sink told (Err refusal) same f asks m
-line_ends faults_before command source sink told same f asks (Err (Early refusal)) s =
-    stops faults_before command source sink told refusal same f asks s
-line_ends faults_before command source sink told same f asks (Err Usage) s = absurd s
+    → (outcome : Result Done Fault) → EndsAfter command (ahead_of first) source sink told watch outcome
+    → Ends given (from_start before faults_before source) sink told watch outcome
+line_ends faults_before command source sink told watch same f asks (Ok done) m =
+    does faults_before command source sink told watch (Ok done) same f asks m
+line_ends faults_before command source sink told watch same f asks (Err (Late refusal)) m =
+    does faults_before command source sink told watch (Err refusal) same f asks m
+line_ends faults_before command source sink told watch same f asks (Err (Early refusal)) s =
+    stops faults_before command source sink told watch refusal same f asks s
+line_ends faults_before command source sink told watch same f asks (Err Usage) s = absurd s
 
 pub few_arguments : (arguments : List (Bor Text)) → length arguments ≤ 1 → has_arguments (texts arguments) ≡ false
 few_arguments [] h = refl
 few_arguments (argument ∷ []) h = refl
 few_arguments (argument ∷ more ∷ arguments) h = absurd (omega arith)
 
-pub line_read : (first : List ℕ) (left : Option (List ℕ)) → (position_or_len is_end first < length first) ⊎ IsAtEnd left
-    → HasLine first left
-line_read first left (inl h) = inl (omega (arith, length-line_of first))
-line_read first left (inr h) = inr h
+-- the first line was read if its end was found, or the input ended
+pub line_read : (buffer : List ℕ) (filled end : ℕ) (left : Option (List ℕ)) → filled ≤ length buffer
+    → end ≡ position_or_len is_end (take filled buffer) → (end < filled) ⊎ IsAtEnd left → HasLine (take filled buffer) left
+line_read buffer filled end left h found (inl e) =
+    inl (omega (arith, e, found, length-take-le filled buffer h, length-line_of (take filled buffer)))
+line_read buffer filled end left h found (inr e) = inr e
 
 -- the arguments of a line are refused
-unread : (given : List Text) (source sink : Change) (got : List ℕ) → has_arguments given ≡ false
+unread : (given : List Text) (source sink : Change) (told : List Notice) (watch : Watch) (got : List ℕ)
+    → has_arguments given ≡ false
     → length got ≤ max_line + 1 → source.faults ≡ source.faults_before → Consumes source.bytes_before source.bytes got
-    → IsSpared sink → HasLine got source.bytes → IsUtf8 (line_of got) → length (line_of got) ≤ max_line
+    → IsSpared sink → told ≡ [] → watch.font ≡ unseen → HasLine got source.bytes → IsUtf8 (line_of got)
+    → length (line_of got) ≤ max_line
     → (fault : Fault) → Refuses fault (command_of (called given ∷ arguments_of_line (line_of got)))
-    → Ends given source sink [] (Err fault)
-unread given source sink got none few quiet read spared line utf8 short (Early OutOfMemory) h =
-    record { got = got; read = read; spared = spared; silent = refl; reason = tt }
-unread given source sink got none few quiet read spared line utf8 short (Early BadChars) h =
+    → Ends given source sink told watch (Err fault)
+unread given source sink told watch got none few quiet read spared silent blank line utf8 short (Early OutOfMemory) h =
+    record { got = got; read = read; spared = spared; silent = silent; unseen = blank; reason = tt }
+unread given source sink told watch got none few quiet read spared silent blank line utf8 short (Early BadChars) h =
     let arguments = called given ∷ arguments_of_line (line_of got) in
     record {
       got = got;
       read = read;
       spared = spared;
-      silent = refl;
+      silent = silent;
+      unseen = blank;
       reason = ((arguments, rw none (line, utf8, short, refl), h), for_line given got source none few quiet);
     }
-unread given source sink got none few quiet read spared line utf8 short Usage h = record {
+unread given source sink told watch got none few quiet read spared silent blank line utf8 short Usage h = record {
   got = got;
   read = read;
   spared = spared;
-  silent = refl;
+  silent = silent;
+  unseen = blank;
   reason = (rw none (inr (line, inr h)), for_line given got source none few quiet);
 }
-unread given source sink got none few quiet read spared line utf8 short _ h = absurd h
+unread given source sink told watch got none few quiet read spared silent blank line utf8 short _ h = absurd h
 
 -- the arguments of the line end the run
 pub first_ends : {given : List Text} {first : List ℕ} {before : Option (List ℕ)} {arguments : List Text}
-    (faults_before : ℕ) (source sink : Change) (told : List Notice) → faults_before ≡ source.faults_before
+    (faults_before : ℕ) (source sink : Change) (told : List Notice) (watch : Watch) → faults_before ≡ source.faults_before
     → IsFirst given first before source.bytes_before arguments → HasLine first source.bytes_before
-    → (outcome : Result Done Fault) → EndsFrom arguments (ahead_of first) source sink told outcome
-    → Ends given (from_start before faults_before source) sink told outcome
-first_ends {given} {first} {before} faults_before source sink told same f line outcome (inl (fault, e, why, read, spared, silent)) =
-    let P : List Notice → Type 0 = λ told. Ends given (from_start before faults_before source) sink told (Err fault) in
-    rw e (subst P (sym silent) (unread given (from_start before faults_before source) sink first f.none f.few (read.1 ∙ sym same)
-    (rw read.0 f.read) (rw spared.0 (Keeps-refl sink.bytes_before), spared.1) (rw read.0 line) f.utf8 f.short
-    fault (rw f.arguments_are at why)))
-first_ends faults_before source sink told same f line outcome (inr (command, asks, ends)) =
-    line_ends faults_before command source sink told same f asks outcome ends
+    → (outcome : Result Done Fault) → EndsFrom arguments (ahead_of first) source sink told watch outcome
+    → Ends given (from_start before faults_before source) sink told watch outcome
+first_ends {given} {first} {before} faults_before source sink told watch same f line outcome (inl (fault, e, r)) =
+    rw e (unread given (from_start before faults_before source) sink told watch first f.none f.few (r.unread.1 ∙ sym same)
+    (rw r.unread.0 f.read) (rw r.untouched.0 (Keeps-refl sink.bytes_before), r.untouched.1) r.silent r.unseen (rw r.unread.0 line)
+    f.utf8 f.short fault (rw f.arguments_are at r.why))
+first_ends faults_before source sink told watch same f line outcome (inr (command, asks, ends)) =
+    line_ends faults_before command source sink told watch same f asks outcome ends
 
 -- ---- arguments that were given
 
@@ -240,26 +251,40 @@ many_arguments [] h = absurd (omega arith)
 many_arguments (argument ∷ []) h = absurd (omega arith)
 many_arguments (argument ∷ more ∷ arguments) h = lt-ltb 1 _ (omega arith)
 
--- nothing was read, and they are refused
-unasked : (given : List Text) (source sink : Change) → has_arguments given ≡ true → IsUnread source
-    → (sink.bytes ≡ sink.bytes_before) × (sink.faults ≡ sink.faults_before)
-    → (fault : Fault) → Refuses fault (command_of given) → Ends given source sink [] (Err fault)
-unasked given source sink some same untouched fault why =
-    by (rw same.0 (Consumes-nil source.bytes_before)) (rw untouched.0 (Keeps-refl sink.bytes_before), untouched.1) fault why
+-- they are refused
+unasked : (given : List Text) (source sink : Change) (told : List Notice) (watch : Watch) (fault : Fault)
+    → has_arguments given ≡ true → RefusesGiven given source sink told watch fault → Ends given source sink told watch (Err fault)
+unasked given source sink told watch fault some r =
+    by (rw r.unread.0 (Consumes-nil source.bytes_before)) (rw r.untouched.0 (Keeps-refl sink.bytes_before), r.untouched.1) fault
+    r.why
   where
     by : Consumes source.bytes_before source.bytes [] → IsSpared sink → (fault : Fault) → Refuses fault (command_of given)
-        → Ends given source sink [] (Err fault)
-    by read spared (Early OutOfMemory) h = record { got = []; read = read; spared = spared; silent = refl; reason = tt }
-    by read spared (Early BadChars) h =
-        record { got = []; read = read; spared = spared; silent = refl; reason = ((given, rw some refl, h), rw some same) }
-    by read spared Usage h = record { got = []; read = read; spared = spared; silent = refl; reason = (rw some h, rw some same) }
+        → Ends given source sink told watch (Err fault)
+    by read spared (Early OutOfMemory) h =
+        record { got = []; read = read; spared = spared; silent = r.silent; unseen = r.unseen; reason = tt }
+    by read spared (Early BadChars) h = record {
+      got = [];
+      read = read;
+      spared = spared;
+      silent = r.silent;
+      unseen = r.unseen;
+      reason = ((given, rw some refl, h), rw some r.unread);
+    }
+    by read spared Usage h = record {
+      got = [];
+      read = read;
+      spared = spared;
+      silent = r.silent;
+      unseen = r.unseen;
+      reason = (rw some h, rw some r.unread);
+    }
     by read spared _ h = absurd h
 
 -- what was asked for ends the run
-given_does : (given : List Text) (command : CommandView) (source sink : Change) (told : List Notice) (answer : Result Done Refusal)
-    → has_arguments given ≡ true → command_of given ≡ Ok command → CompletesAfter command nothing_ahead source sink told answer
-    → Completes given source sink told answer
-given_does given command source sink told answer some asks m = record {
+given_does : (given : List Text) (command : CommandView) (source sink : Change) (told : List Notice) (watch : Watch)
+    (answer : Result Done Refusal) → has_arguments given ≡ true → command_of given ≡ Ok command
+    → CompletesAfter command nothing_ahead source sink told watch answer → Completes given source sink told watch answer
+given_does given command source sink told watch answer some asks m = record {
   input = m.more;
   read = m.read;
   whole = m.whole;
@@ -272,6 +297,7 @@ given_does given command source sink told answer some asks m = record {
   font = m.font;
   decoded = rw some m.decoded;
   leaves = m.leaves;
+  seen = m.seen;
 }
 
 given_reasons : (given : List Text) (command : CommandView) (source : Change) (more : List ℕ) → has_arguments given ≡ true
@@ -283,26 +309,28 @@ given_reasons given command source more some asks InputTooLarge h = omega (arith
 given_reasons given command source more some asks OutOfMemory h = tt
 given_reasons given command source more some asks _ h = absurd h
 
-given_ends : (given : List Text) (command : CommandView) (source sink : Change) (told : List Notice)
+given_ends : (given : List Text) (command : CommandView) (source sink : Change) (told : List Notice) (watch : Watch)
     → has_arguments given ≡ true → command_of given ≡ Ok command
-    → (outcome : Result Done Fault) → EndsAfter command nothing_ahead source sink told outcome → Ends given source sink told outcome
-given_ends given command source sink told some asks (Ok done) m = given_does given command source sink told (Ok done) some asks m
-given_ends given command source sink told some asks (Err (Late refusal)) m =
-    given_does given command source sink told (Err refusal) some asks m
-given_ends given command source sink told some asks (Err (Early refusal)) s = record {
+    → (outcome : Result Done Fault) → EndsAfter command nothing_ahead source sink told watch outcome
+    → Ends given source sink told watch outcome
+given_ends given command source sink told watch some asks (Ok done) m =
+    given_does given command source sink told watch (Ok done) some asks m
+given_ends given command source sink told watch some asks (Err (Late refusal)) m =
+    given_does given command source sink told watch (Err refusal) some asks m
+given_ends given command source sink told watch some asks (Err (Early refusal)) s = record {
   got = s.more;
   read = s.read;
   spared = s.spared;
   silent = s.silent;
+  unseen = s.unseen;
   reason = given_reasons given command source s.more some asks refusal s.reason;
 }
-given_ends given command source sink told some asks (Err Usage) s = absurd s
+given_ends given command source sink told watch some asks (Err Usage) s = absurd s
 
 -- arguments that were given end the run
-pub all_ends : (given : List Text) (source sink : Change) (told : List Notice) → has_arguments given ≡ true
-    → (outcome : Result Done Fault) → EndsFrom given nothing_ahead source sink told outcome → Ends given source sink told outcome
-all_ends given source sink told some outcome (inl (fault, e, why, untouched, spared, silent)) =
-    let P : List Notice → Type 0 = λ told. Ends given source sink told (Err fault) in
-    rw e (subst P (sym silent) (unasked given source sink some untouched spared fault why))
-all_ends given source sink told some outcome (inr (command, asks, ends)) =
-    given_ends given command source sink told some asks outcome ends
+pub all_ends : (given : List Text) (source sink : Change) (told : List Notice) (watch : Watch) → has_arguments given ≡ true
+    → (outcome : Result Done Fault) → EndsFrom given nothing_ahead source sink told watch outcome
+    → Ends given source sink told watch outcome
+all_ends given source sink told watch some outcome (inl (fault, e, r)) = rw e (unasked given source sink told watch fault some r)
+all_ends given source sink told watch some outcome (inr (command, asks, ends)) =
+    given_ends given command source sink told watch some asks outcome ends

@@ -12,6 +12,9 @@ use Rattle.fx_strike.specs.Strike.{Plan}
 use Rattle.fx_sfnt.specs.Collections.{FontFileView}
 use Rattle.fx_fixed.specs.Changes.{Change}
 use Rattle.fx_arguments.specs.declared.done.Done.{Done}
+use Rattle.clap.specs.Walk.{Text}
+use Rattle.fx_arguments.specs.CommandLine.{command_of}
+use Rattle.fx_arguments.specs.declared.fault.Fault.{Fault}
 use Rattle.fx_arguments.specs.declared.fault.Fault.TheVariants.{Late}
 use Rattle.fx_arguments.specs.Commands.{CharacterChoiceView, CommandView, MakeView, listed, mapped, seen_request}
 use Rattle.fx_arguments.specs.ReadAhead.{ReadAheadView}
@@ -19,12 +22,13 @@ use Rattle.fx_request.specs.declared.notice.Notice.{Notice}
 use Rattle.fx_arguments.specs.Tellers.{HearsLine, TellerView}
 use Rattle.fx_cli.specs.Mapped.{all_mapped, chosen_of}
 use Rattle.fx_cli.specs.Runs.{IsSpared, LeavesBy, StrikeLeaves}
-use Rattle.fx_cli.specs.Steps.{CompletesAfter, EndsAfter, Telling}
+use Rattle.fx_cli.specs.Steps.{CompletesAfter, EndsAfter, EndsFrom, Telling}
+use Rattle.fx_cli.specs.declared.watch.Watch.{Watch}
 
 -- a task that was done, or was refused late, ends the run
-pub task_ends : {command : CommandView} {ahead : ReadAheadView} {source sink : Change} {told : List Notice}
-    → (answer : Result Done Refusal) → CompletesAfter command ahead source sink told answer
-    → EndsAfter command ahead source sink told (map_fault Late answer)
+pub task_ends : {command : CommandView} {ahead : ReadAheadView} {source sink : Change} {told : List Notice} {watch : Watch}
+    → (answer : Result Done Refusal) → CompletesAfter command ahead source sink told watch answer
+    → EndsAfter command ahead source sink told watch (map_fault Late answer)
 task_ends (Ok done) h = h
 task_ends (Err refusal) h = h
 
@@ -34,7 +38,14 @@ task_ends (Err refusal) h = h
 pub untold : {teller : TellerView} {EndsBy : List Notice → Type 0} → EndsBy [] → Telling teller teller EndsBy
 untold h = record { notices = []; heard = refl; ends = h }
 
--- the same, and the step ends another one
+-- nothing, since the run of a command stopped before its task
+pub untold_after : {teller : TellerView} {arguments : List Text} {command : CommandView} (ahead : ReadAheadView)
+    {source sink : Change} {watch : Watch} {outcome : Result Done Fault} → command_of arguments ≡ Ok command
+    → EndsAfter command ahead source sink [] watch outcome
+    → Telling teller teller (λ told. EndsFrom arguments ahead source sink told watch outcome)
+untold_after {command = command} ahead asks ends = untold (inr (command, asks, ends))
+
+-- what was told in a step that ends another one
 pub told_as : {was now : TellerView} {EndsBy ThenBy : List Notice → Type 0} → Telling was now EndsBy
     → ((told : List Notice) → EndsBy told → ThenBy told) → Telling was now ThenBy
 told_as t h = record { notices = t.notices; heard = t.heard; ends = h t.notices t.ends }

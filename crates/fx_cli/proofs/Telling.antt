@@ -24,29 +24,35 @@ use Rattle.fx_front.specs.Places.{IsStatus}
 use Rattle.fx_arguments.specs.ReadAhead.{ReadAheadView}
 use Rattle.fx_arguments.specs.Tellers.{TellerView, Tells, TellsBy, HearsLine, begun}
 use Rattle.fx_arguments.proofs.Telling.{tells_change, tells_notices, tells_then}
+use Rattle.fx_words.specs.Parts.{PartsView}
+use Rattle.fx_front.specs.declared.facts.Facts.{Facts}
 use Rattle.fx_cli.specs.Runs.{Ends, IsSpared, Runs, font_bytes, has_arguments}
-use Rattle.fx_cli.specs.Steps.{EndsAfter, Telling}
+use Rattle.fx_cli.specs.Seen.{unseen}
+use Rattle.fx_cli.specs.Steps.{EndsAfter, IsReasonAfter, Telling}
+use Rattle.fx_cli.specs.Watch.{Knows}
+use Rattle.fx_cli.specs.declared.watch.Watch.{Watch}
 use Rattle.fx_cli.proofs.FirstLines.{for_line}
 
 -- what a teller was told from its start to the end of a run, and what is known of how it ended
-pub runs_known : {given : List Text} {source sink : Change} {name : GName} {old new : Option (List ℕ)}
-    {faults_before faults status : ℕ} {was now end : TellerView} (Knows : Result Done Fault → Type 0) (outcome : Result Done Fault)
-    → was ≡ begun name old faults_before → Telling was now (λ told. Ends given source sink told outcome)
-    → Tells now end (outcome_line outcome) → status ≡ status_of outcome → new ≡ end.held → faults ≡ end.faults → Knows outcome
-    → (runs : Runs given source sink (record { bytes_before = old; bytes = new; faults_before = faults_before; faults = faults })
-    status) × Knows runs.outcome
-runs_known {old = old} {end = end} Knows outcome w t line s held count known =
-    let P : TellerView → Type 0 = λ x. Tells x end (flat_map notice_line t.notices ++ outcome_line outcome) in (
-      record {
-        outcome = outcome;
-        notices = t.notices;
-        ends = t.ends;
-        told = s;
-        lines = rw (held, count) (tells_change (subst P w (tells_then (flat_map notice_line t.notices) (outcome_line outcome)
-            (tells_notices t.notices t.heard) line)));
-      },
-      known,
-    )
+pub runs_known : {parts : PartsView} {source sink : Change} {name : GName} {old new : Option (List ℕ)}
+    {faults_before faults status : ℕ} {was now end : TellerView} {facts : Facts} (outcome : Result Done Fault)
+    → was ≡ begun name old faults_before
+    → Telling was now (λ told. Ends parts.words source sink told (record { font = facts.font; names_all = parts.names_all })
+    outcome)
+    → Tells now end (outcome_line outcome) → status ≡ status_of outcome → new ≡ end.held → faults ≡ end.faults
+    → Knows outcome facts
+    → Runs parts source sink (record { bytes_before = old; bytes = new; faults_before = faults_before; faults = faults }) status
+    facts
+runs_known {old = old} {end = end} outcome w t line s held count known =
+    let P : TellerView → Type 0 = λ x. Tells x end (flat_map notice_line t.notices ++ outcome_line outcome) in record {
+      outcome = outcome;
+      notices = t.notices;
+      ends = t.ends;
+      told = s;
+      lines = rw (held, count) (tells_change (subst P w (tells_then (flat_map notice_line t.notices) (outcome_line outcome)
+          (tells_notices t.notices t.heard) line)));
+      knows = known;
+    }
 
 -- the sink of a teller stays
 tells_same_by : (b : Bool) (was now : TellerView) (text : List ℕ) → TellsBy b was now text → now.sink ≡ was.sink
@@ -70,60 +76,65 @@ begun_told {end = end} {due = due} w e t held count =
     rw (held, count) (tells_change (subst P w (rw e at t)))
 
 -- there is no first line
-pub no_line : (given : List Text) (source sink : Change) (got : List ℕ) → has_arguments given ≡ false
-    → Consumes source.bytes_before source.bytes got → IsSpared sink → (fault : Fault)
-    → IsLineCause fault got source.faults_before source.faults → Ends given source sink [] (Err fault)
-no_line given source sink got none read spared Usage h = record {
+pub no_line : (given : List Text) (source sink : Change) (watch : Watch) (got : List ℕ) → has_arguments given ≡ false
+    → Consumes source.bytes_before source.bytes got → IsSpared sink → watch.font ≡ unseen → (fault : Fault)
+    → IsLineCause fault got source.faults_before source.faults → Ends given source sink [] watch (Err fault)
+no_line given source sink watch got none read spared blank Usage h = record {
   got = got;
   read = read;
   spared = spared;
   silent = refl;
+  unseen = blank;
   reason = (rw none (inl h.0), for_line given got source none h.1 h.2);
 }
-no_line given source sink got none read spared (Early ReadFailed) h =
-    record { got = got; read = read; spared = spared; silent = refl; reason = h }
-no_line given source sink got none read spared _ h = absurd h
+no_line given source sink watch got none read spared blank (Early ReadFailed) h =
+    record { got = got; read = read; spared = spared; silent = refl; unseen = blank; reason = h }
+no_line given source sink watch got none read spared blank _ h = absurd h
 
 -- there was no memory for the arguments of a line
-pub no_room : (given : List Text) (source sink : Change) (got : List ℕ) → Consumes source.bytes_before source.bytes got
-    → IsSpared sink → (r : Result Done Fault) → IsErrAnd r (λ e. e ≡ Early OutOfMemory) → Ends given source sink [] r
-no_room given source sink got read spared (Ok done) h = absurd h
-no_room given source sink got read spared (Err e) h =
-    let P : Fault → Type 0 = λ f. Ends given source sink [] (Err f) in
-    subst P (sym h) (record { got = got; read = read; spared = spared; silent = refl; reason = tt })
+pub no_room : (given : List Text) (source sink : Change) (watch : Watch) (got : List ℕ)
+    → Consumes source.bytes_before source.bytes got → IsSpared sink → watch.font ≡ unseen
+    → (r : Result Done Fault) → IsErrAnd r (λ e. e ≡ Early OutOfMemory) → Ends given source sink [] watch r
+no_room given source sink watch got read spared blank (Ok done) h = absurd h
+no_room given source sink watch got read spared blank (Err e) h =
+    let P : Fault → Type 0 = λ f. Ends given source sink [] watch (Err f) in
+    subst P (sym h) (record { got = got; read = read; spared = spared; silent = refl; unseen = blank; reason = tt })
 
 -- the input was not read to its end
-pub no_text : (command : CommandView) (ahead : ReadAheadView) (source sink : Change) (more : List ℕ)
+pub no_text : (command : CommandView) (ahead : ReadAheadView) (source sink : Change) (watch : Watch) (more : List ℕ)
     → Consumes source.bytes_before source.bytes more → (ahead.ended ≡ true → (more ≡ []) × IsAtEnd source.bytes) → IsSpared sink
-    → (refusal : Refusal)
+    → watch.font ≡ unseen → (refusal : Refusal)
     → IsReadCause refusal (ahead.line + length (ahead.text ++ more)) source.faults_before source.faults
-    → EndsAfter command ahead source sink [] (Err (Early refusal))
-no_text command ahead source sink more read rest spared ReadFailed h =
-    record { more = more; read = read; rest = rest; spared = spared; silent = refl; reason = h }
-no_text command ahead source sink more read rest spared InputTooLarge h =
-    record { more = more; read = read; rest = rest; spared = spared; silent = refl; reason = h }
-no_text command ahead source sink more read rest spared OutOfMemory h =
-    record { more = more; read = read; rest = rest; spared = spared; silent = refl; reason = tt }
-no_text command ahead source sink more read rest spared _ h = absurd h
+    → EndsAfter command ahead source sink [] watch (Err (Early refusal))
+no_text command ahead source sink watch more read rest spared blank ReadFailed h =
+    record { more = more; read = read; rest = rest; spared = spared; silent = refl; unseen = blank; reason = h }
+no_text command ahead source sink watch more read rest spared blank InputTooLarge h =
+    record { more = more; read = read; rest = rest; spared = spared; silent = refl; unseen = blank; reason = h }
+no_text command ahead source sink watch more read rest spared blank OutOfMemory h =
+    record { more = more; read = read; rest = rest; spared = spared; silent = refl; unseen = blank; reason = tt }
+no_text command ahead source sink watch more read rest spared blank _ h = absurd h
 
 -- the text of the input is no font's
-pub no_font : (command : CommandView) (ahead : ReadAheadView) (source sink : Change) (more text : List ℕ)
+pub no_font : (command : CommandView) (ahead : ReadAheadView) (source sink : Change) (watch : Watch) (more text : List ℕ)
     → Consumes source.bytes_before source.bytes more → IsAtEnd source.bytes → (ahead.ended ≡ true → more ≡ [])
-    → text ≡ ahead.text ++ more → IsSpared sink → (refusal : Refusal)
+    → text ≡ ahead.text ++ more → IsSpared sink → watch.font ≡ unseen → (refusal : Refusal)
     → (refusal ≡ OutOfMemory) ⊎ ((refusal ≡ BadHex) × (font_bytes command.hex text ≡ None))
-    → EndsAfter command ahead source sink [] (Err (Early refusal))
-no_font command ahead source sink more text read whole rest same spared refusal (inl h) =
-    subst (λ r. EndsAfter command ahead source sink [] (Err (Early r))) (sym h)
-    (record { more = more; read = read; rest = λ e. (rest e, whole); spared = spared; silent = refl; reason = tt })
-no_font command ahead source sink more text read whole rest same spared refusal (inr h) =
-    subst (λ r. EndsAfter command ahead source sink [] (Err (Early r))) (sym h.0)
-    (record {
+    → EndsAfter command ahead source sink [] watch (Err (Early refusal))
+no_font command ahead source sink watch more text read whole rest same spared blank refusal cause = elim cause [
+  | inl h ↦ by OutOfMemory h tt
+  | inr h ↦ by BadHex h.0 (whole, ap (font_bytes command.hex) (sym same) ∙ h.1)
+]
+  where
+    by : (due : Refusal) → refusal ≡ due → IsReasonAfter command ahead more source due
+        → EndsAfter command ahead source sink [] watch (Err (Early refusal))
+    by due e reason = subst (λ r. EndsAfter command ahead source sink [] watch (Err (Early r))) (sym e) (record {
       more = more;
       read = read;
-      rest = λ e. (rest e, whole);
+      rest = λ h. (rest h, whole);
       spared = spared;
       silent = refl;
-      reason = (whole, ap (font_bytes command.hex) (sym same) ∙ h.1);
+      unseen = blank;
+      reason = reason;
     })
 
 -- a listing was refused

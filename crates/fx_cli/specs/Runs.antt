@@ -38,6 +38,11 @@ use Rattle.fx_arguments.specs.Lines.{Tells, notice_line, outcome_line, status_of
 use Rattle.fx_cli.specs.Faces.{faces_of}
 use Rattle.fx_cli.specs.Mapped.{mapped_of}
 use Rattle.fx_cli.specs.Pictures.{Shows}
+use Rattle.fx_cli.specs.Seen.{Sees, unseen}
+use Rattle.fx_cli.specs.Watch.{Knows}
+use Rattle.fx_cli.specs.declared.watch.Watch.{Watch}
+use Rattle.fx_front.specs.declared.facts.Facts.{Facts}
+use Rattle.fx_words.specs.Parts.{PartsView}
 use Rattle.fx_arguments.specs.Input.{bytes_of_hex, line_of, rest_of, arguments_of_line}
 
 -- there are arguments after the program's name
@@ -125,7 +130,7 @@ ListingLeaves what font sink answer =
 
 -- what a call that writes the trace of programs leaves of it
 abbrev pub TraceLeaves : asked.Trace → FontFileView → Change → Result Bool Refusal → Type 0
-TraceLeaves programs font sink answer = TellsTrace (trace_of font programs.ppem programs.traced) sink answer
+TraceLeaves programs font sink answer = TellsTrace (trace_of font programs.ppem programs.traced programs.careful) sink answer
 
 -- what a call that writes the lines of faces leaves of it: all of them, or their first n bytes and one fault; or the cause, and the
 -- sink is as it was
@@ -164,8 +169,10 @@ TaskLeaves (explanation line) font sink told (Ok Explanation) = LineLeaves line 
 TaskLeaves (explanation line) font sink told (Err refusal) = LineLeaves line sink (Err refusal) × (told ≡ [])
 TaskLeaves task font sink told (Ok done) = ⊥
 
--- the arguments are valid, the source was read to its end without a fault, and the sink has what results from that font and request
-pub record Completes (given : List Text) (source sink : Change) (told : List Notice) (answer : Result Done Refusal) : Type 0 where
+-- the arguments are valid, the source was read to its end without a fault, the sink has what results from that font and request,
+-- and the watch saw that font
+pub record Completes (given : List Text) (source sink : Change) (told : List Notice) (watch : Watch) (answer : Result Done Refusal)
+    : Type 0 where
   pub input : List ℕ
   pub read : Consumes source.bytes_before source.bytes input
   pub whole : IsAtEnd source.bytes
@@ -178,6 +185,7 @@ pub record Completes (given : List Text) (source sink : Change) (told : List Not
   pub font : List ℕ
   pub decoded : font_bytes command.hex (text_of given input) ≡ Some font
   pub leaves : TaskLeaves command.task (face_in font command.face) sink told answer
+  pub seen : Sees command (face_in font command.face) answer watch.names_all watch.font
 
 -- the arguments are invalid
 abbrev pub IsUsageBy : Bool → List Text → List ℕ → Option (List ℕ) → Type 0
@@ -215,28 +223,31 @@ IsReason given got source (Early InputTooLarge) = max_input < length got
 IsReason given got source (Early OutOfMemory) = Unit {0}
 IsReason given got source _ = ⊥
 
--- the sink is as it was, nothing was told of characters, and the reason is a true one
-pub record Stops (given : List Text) (source sink : Change) (told : List Notice) (fault : Fault) : Type 0 where
+-- the sink is as it was, nothing was told of characters, no font was seen, and the reason is a true one
+pub record Stops (given : List Text) (source sink : Change) (told : List Notice) (watch : Watch) (fault : Fault) : Type 0 where
   pub got : List ℕ
   pub read : Consumes source.bytes_before source.bytes got
   pub spared : IsSpared sink
   pub silent : told ≡ []
+  pub unseen : watch.font ≡ unseen
   pub reason : IsReason given got source fault
 
 -- how a run ends
-abbrev pub Ends : List Text → Change → Change → List Notice → Result Done Fault → Type 0
-Ends given source sink told (Ok done) = Completes given source sink told (Ok done)
-Ends given source sink told (Err (Late refusal)) = Completes given source sink told (Err refusal)
-Ends given source sink told (Err fault) = Stops given source sink told fault
+abbrev pub Ends : List Text → Change → Change → List Notice → Watch → Result Done Fault → Type 0
+Ends given source sink told watch (Ok done) = Completes given source sink told watch (Ok done)
+Ends given source sink told watch (Err (Late refusal)) = Completes given source sink told watch (Err refusal)
+Ends given source sink told watch (Err fault) = Stops given source sink told watch fault
 
--- a run on these arguments, the program's name first: how it ended, its status, and its lines for people. Each refused character
--- that did not stop the strike has a line, and the last line says how the run ended
-pub record Runs (given : List Text) (source sink err : Change) (status : ℕ) : Type 0 where
+-- a run on the words for the program, its name first: how it ended, its status, and its lines for people. Each refused character
+-- that did not stop the strike has a line, and the last line says how the run ended. And what a front learns of how it ended, and
+-- of the font that it read
+pub record Runs (parts : PartsView) (source sink err : Change) (status : ℕ) (facts : Facts) : Type 0 where
   pub outcome : Result Done Fault
   pub notices : List Notice
-  pub ends : Ends given source sink notices outcome
+  pub ends : Ends parts.words source sink notices (record { font = facts.font; names_all = parts.names_all }) outcome
   pub told : status ≡ status_of outcome
   pub lines : Tells (flat_map notice_line notices ++ outcome_line outcome) err
+  pub knows : Knows outcome facts
 
 -- how a run ends if the system gives no arguments: memory ran out, or an argument is not text
 abbrev pub unread_outcome : ErrorKind → Result Done Fault

@@ -1,6 +1,6 @@
 -- What a front learns of the font of a run.
-use Rattle.std.specs.Prelude.{◌≡◌, ◌⊎◌, ◌+◌, ◌==◌, ◌&&◌, ℕ, nat_lt, Bool, true, false, List, codes, length, take, slice_get, is_some}
-use Rattle.std.specs.Prelude.{Option, IfSome, Result, Ok, Err, if◌then◌else◌}
+use Rattle.std.specs.Prelude.{◌≡◌, ◌⊎◌, ◌+◌, ◌==◌, ◌&&◌, ℕ, nat_lt, Bool, true, false, List, [], codes, length, take, slice_get, is_some}
+use Rattle.std.specs.Prelude.{Option, Some, None, IfSome, option_map, Result, Ok, Err, if◌then◌else◌}
 use Rattle.fx_sfnt.specs.Collections.{FontFileView}
 use Rattle.fx_sfnt.specs.Tables.{Face, font_of, table_in}
 use Rattle.fx_sfnt.specs.declared.fault.FontFault.{FontFault}
@@ -12,12 +12,25 @@ use Rattle.fx_request.specs.Characters.{rising}
 use Rattle.fx_request.specs.Limits.{max_characters, max_code}
 use Rattle.fx_request.specs.declared.refusal.Refusal.{Refusal}
 use Rattle.fx_request.specs.declared.request.Report.{Report}
-use Rattle.fx_arguments.specs.Commands.{CharacterChoiceView, CommandView, MakeView, TaskView, listed, mapped, strike}
+use Rattle.fx_arguments.specs.Commands.{CharacterChoiceView, CommandView, MakeView, TaskView, listed, mapped, seen_characters, strike}
 use Rattle.fx_arguments.specs.declared.done.Done.{Done}
 use Rattle.fx_arguments.specs.declared.done.Done.TheVariants as done
-use Rattle.fx_front.specs.declared.facts.Facts.{Facts}
+use Rattle.fx_front.specs.declared.facts.FontFacts.{FontFacts}
 use Rattle.fx_cli.specs.Bitmaps.{has_bitmaps}
 use Rattle.fx_cli.specs.Missing.{Names, lacking, ranges_of}
+use Rattle.fx_cli.specs.declared.seen.Made.{Made}
+
+-- nothing
+abbrev pub unseen : FontFacts
+unseen = record {
+  start = None;
+  is_variable = false;
+  has_bitmaps = false;
+  missing = Some [];
+  has_more = false;
+  first = None;
+  is_cut = false;
+}
 
 -- a task draws glyphs: of a variable font these are its default instance's
 abbrev pub draws : Done → Bool
@@ -26,72 +39,93 @@ draws done.Faces = false
 draws done.Explanation = false
 draws _ = true
 
--- the first character of a map
-abbrev pub first_in : Mapping → Option ℕ
-first_in map = slice_get (mapped_below map (max_code + 1)) 0
+-- glyphs of a variable font were drawn
+abbrev pub is_variable : Result Done Refusal → Result Face FontFault → Bool
+is_variable (Ok done) (Ok font) = draws done && is_some (table_in font (codes "fvar"))
+is_variable outcome font = false
 
--- a map has more characters than a strike takes
-abbrev pub is_cut : Mapping → Bool
-is_cut map = nat_lt max_characters (length (mapped_below map (max_code + 1)))
+-- ---- of a strike
 
--- ---- what was learned before, and what then
+-- a strike that was made: its counts, the size and the characters that were asked for, its font and the font's map
+pub record MadeView : Type 0 where
+  pub report : Report
+  pub ppem : ℕ
+  pub chars : CharacterChoiceView
+  pub font : Face
+  pub map : Mapping
 
--- the first bytes of the font's file, if there was memory for them, unless it is hexadecimal text
-abbrev pub SeesStart : Bool → List ℕ → Facts → Facts → Type 0
-SeesStart true bytes was now = now.start ≡ was.start
-SeesStart false bytes was now = IfSome now.start (λ start. start.items ≡ take 12 bytes)
+abbrev pub seen_made : Made → MadeView
+seen_made made = record {
+  report = made.report;
+  ppem = made.ppem;
+  chars = seen_characters made.chars.now;
+  font = made.font.now;
+  map = made.map;
+}
 
--- nothing of missing characters
-abbrev pub SeesNoneMissing : Facts → Facts → Type 0
-SeesNoneMissing was now = (now.missing ≡ was.missing) × (now.has_more ≡ was.has_more)
+abbrev pub made_with : Report → MakeView → Face → Result Mapping CharMapFault → Option MadeView
+made_with report make font (Ok map) =
+    Some (record { report = report; ppem = make.ppem; chars = make.chars; font = font; map = map })
+made_with report make font (Err fault) = None
 
--- which of these characters the font lacks, as ranges, unless there was no memory for them
-abbrev pub SeesMissing : List ℕ → Mapping → Bool → Facts → Facts → Type 0
-SeesMissing chars map names_all was now =
-    Names names_all (ranges_of (lacking map (rising chars))) now.missing now.has_more ⊎ SeesNoneMissing was now
+-- the strike that a task came to
+abbrev pub made_of : Result Done Refusal → TaskView → Result Face FontFault → Option MadeView
+made_of (Ok (done.Strike report)) (strike make) (Ok font) = made_with report make font (map_of font)
+made_of outcome task font = None
 
--- the same if some are missing
-abbrev pub SeesMissingIf : Bool → List ℕ → Mapping → Bool → Facts → Facts → Type 0
-SeesMissingIf true chars map names_all was now = SeesMissing chars map names_all was now
-SeesMissingIf false chars map names_all was now = SeesNoneMissing was now
+-- the font has bitmaps of its own at the strike's size
+abbrev pub has_own_bitmaps : Option MadeView → Bool
+has_own_bitmaps None = false
+has_own_bitmaps (Some made) = has_bitmaps made.font made.ppem
 
--- which characters of a list are missing, or whether there are too many in the map
-abbrev pub SeesChars : CharacterChoiceView → Report → Mapping → Bool → Facts → Facts → Type 0
-SeesChars (listed chars) report map names_all was now =
-    SeesMissingIf (nat_lt 0 report.missing) chars map names_all was now × (now.is_cut ≡ was.is_cut)
-SeesChars mapped report map names_all was now = SeesNoneMissing was now × (now.is_cut ≡ is_cut map)
+-- the characters of a map
+abbrev pub characters_of : Mapping → List ℕ
+characters_of map = mapped_below map (max_code + 1)
 
--- the map's first character too, if the strike has no glyph
-abbrev pub SeesMap : Result Mapping CharMapFault → Report → MakeView → Bool → Facts → Facts → Type 0
-SeesMap (Ok map) report make names_all was now =
-    (now.first ≡ (if report.glyphs == 0 then first_in map else was.first)) × SeesChars make.chars report map names_all was now
-SeesMap (Err fault) report make names_all was now =
-    (now.first ≡ was.first) × SeesNoneMissing was now × (now.is_cut ≡ was.is_cut)
+-- the first character of the map, if the strike has no glyph
+abbrev pub first_of : Option MadeView → Option ℕ
+first_of None = None
+first_of (Some made) = if made.report.glyphs == 0 then slice_get (characters_of made.map) 0 else None
 
--- of which font a strike was made: whether it has bitmaps of its own at the size, and its map
-abbrev pub SeesStrike : Report → MakeView → Face → Bool → Facts → Facts → Type 0
-SeesStrike report make font names_all was now = (now.has_bitmaps ≡ has_bitmaps font make.ppem)
-    × SeesMap (map_of font) report make names_all was now × (now.start ≡ was.start) × (now.is_variable ≡ was.is_variable)
+-- all characters were asked for, and the map has more than a strike takes
+abbrev pub takes_all : CharacterChoiceView → Bool
+takes_all (listed chars) = false
+takes_all mapped = true
 
--- nothing of a strike
-abbrev pub SeesNoStrike : Facts → Facts → Type 0
-SeesNoStrike was now = (now.has_bitmaps ≡ was.has_bitmaps) × (now.first ≡ was.first) × SeesNoneMissing was now
-    × (now.is_cut ≡ was.is_cut)
+abbrev pub has_too_many : Mapping → Bool
+has_too_many map = nat_lt max_characters (length (characters_of map))
 
--- by what the task came to
-abbrev pub SeesDone : Done → TaskView → Face → Bool → Facts → Facts → Type 0
-SeesDone (done.Strike report) (strike make) font names_all was now = (now.has_bitmaps ≡ has_bitmaps font make.ppem)
-    × SeesMap (map_of font) report make names_all was now
-SeesDone _ _ font names_all was now = SeesNoStrike was now
+abbrev pub is_cut : Option MadeView → Bool
+is_cut None = false
+is_cut (Some made) = takes_all made.chars && has_too_many made.map
 
--- whether the font is variable, if its glyphs were drawn
-abbrev pub SeesFont : Result Done Refusal → Result Face FontFault → TaskView → Bool → Facts → Facts → Type 0
-SeesFont (Ok done) (Ok font) task names_all was now =
-    (now.is_variable ≡ (draws done && is_some (table_in font (codes "fvar")))) × SeesDone done task font names_all was now
-SeesFont (Ok done) (Err fault) task names_all was now = (now.is_variable ≡ was.is_variable) × SeesNoStrike was now
-SeesFont (Err refusal) font task names_all was now = (now.is_variable ≡ was.is_variable) × SeesNoStrike was now
+-- the characters of the list that the map lacks, as ranges, if the strike counts any
+abbrev pub lacked_in : CharacterChoiceView → Mapping → List (ℕ × ℕ)
+lacked_in (listed chars) map = ranges_of (lacking map (rising chars))
+lacked_in mapped map = []
 
--- what a command came to with a font
-abbrev pub Sees : CommandView → FontFileView → Result Done Refusal → Bool → Facts → Facts → Type 0
-Sees command font outcome names_all was now =
-    SeesStart command.hex font.bytes was now × SeesFont outcome (font_of font) command.task names_all was now
+abbrev pub lacked_of : Option MadeView → List (ℕ × ℕ)
+lacked_of None = []
+lacked_of (Some made) = if nat_lt 0 made.report.missing then lacked_in made.chars made.map else []
+
+-- what is seen of the font of a strike, if one was made; of the missing characters nothing, if there was no memory for them
+pub record SeesStrike (made : Option MadeView) (names_all : Bool) (facts : FontFacts) : Type 0 where
+  pub bitmaps : facts.has_bitmaps ≡ has_own_bitmaps made
+  pub first : facts.first ≡ first_of made
+  pub cut : facts.is_cut ≡ is_cut made
+  pub missing : Names names_all (lacked_of made) facts.missing facts.has_more ⊎ Names names_all [] facts.missing facts.has_more
+
+-- ---- of a run
+
+-- the first bytes of the font's file, unless it is hexadecimal text; none if there was no memory for them
+abbrev pub SeesStart : Bool → List ℕ → Option (List ℕ) → Type 0
+SeesStart true bytes start = start ≡ None
+SeesStart false bytes start = IfSome start (λ start. start ≡ take 12 bytes)
+
+-- what is seen of the font of a command, whose task came to this
+pub record Sees (command : CommandView) (font : FontFileView) (outcome : Result Done Refusal) (names_all : Bool)
+    (facts : FontFacts)
+    : Type 0 where
+  pub start : SeesStart command.hex font.bytes (option_map (λ start. start.items) facts.start)
+  pub variable : facts.is_variable ≡ is_variable outcome (font_of font)
+  pub strike : SeesStrike (made_of outcome command.task (font_of font)) names_all facts

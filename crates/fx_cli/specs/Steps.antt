@@ -17,11 +17,13 @@ use Rattle.fx_request.specs.declared.notice.Notice.{Notice}
 use Rattle.fx_request.specs.Notices.{HearsAll}
 use Rattle.fx_arguments.specs.Tellers.{TellerView, HearsLine}
 use Rattle.fx_cli.specs.Runs.{IsSpared, IsUnread, TaskLeaves, font_bytes}
+use Rattle.fx_cli.specs.Seen.{Sees, unseen}
+use Rattle.fx_cli.specs.declared.watch.Watch.{Watch}
 
--- the source was read to its end after what was read ahead, without a fault, its text was decoded if the command says so, and the
--- sink has what the command's task leaves with that font
+-- the source was read to its end after what was read ahead, without a fault, its text was decoded if the command says so, the
+-- sink has what the command's task leaves with that font, and the watch saw that font
 pub record CompletesAfter (command : CommandView) (ahead : ReadAheadView) (source sink : Change) (told : List Notice)
-    (answer : Result Done Refusal) : Type 0 where
+    (watch : Watch) (answer : Result Done Refusal) : Type 0 where
   pub more : List ℕ
   pub read : Consumes source.bytes_before source.bytes more
   pub whole : IsAtEnd source.bytes
@@ -31,6 +33,7 @@ pub record CompletesAfter (command : CommandView) (ahead : ReadAheadView) (sourc
   pub font : List ℕ
   pub decoded : font_bytes command.hex (ahead.text ++ more) ≡ Some font
   pub leaves : TaskLeaves command.task (face_in font command.face) sink told answer
+  pub seen : Sees command (face_in font command.face) answer watch.names_all watch.font
 
 -- a refusal before the task is true: the reader failed, the text is no hexadecimal text, the input is too large, or memory ran out
 abbrev pub IsReasonAfter : CommandView → ReadAheadView → List ℕ → Change → Refusal → Type 0
@@ -40,28 +43,39 @@ IsReasonAfter command ahead more source InputTooLarge = max_input < ahead.line +
 IsReasonAfter command ahead more source OutOfMemory = Unit {0}
 IsReasonAfter command ahead more source _ = ⊥
 
--- the run stopped before the task, for a true reason: the sink is as it was, and nothing was told of characters
-pub record StopsAfter (command : CommandView) (ahead : ReadAheadView) (source sink : Change) (told : List Notice)
+-- the run stopped before the task, for a true reason: the sink is as it was, nothing was told of characters, and no font was seen
+pub record StopsAfter (command : CommandView) (ahead : ReadAheadView) (source sink : Change) (told : List Notice) (watch : Watch)
     (refusal : Refusal) : Type 0 where
   pub more : List ℕ
   pub read : Consumes source.bytes_before source.bytes more
   pub rest : ahead.ended ≡ true → (more ≡ []) × IsAtEnd source.bytes
   pub spared : IsSpared sink
   pub silent : told ≡ []
+  pub unseen : watch.font ≡ unseen
   pub reason : IsReasonAfter command ahead more source refusal
 
 -- how a run ends once its command is known: it did the task, which may refuse late, or it stopped early
-abbrev pub EndsAfter : CommandView → ReadAheadView → Change → Change → List Notice → Result Done Fault → Type 0
-EndsAfter command ahead source sink told (Ok done) = CompletesAfter command ahead source sink told (Ok done)
-EndsAfter command ahead source sink told (Err (Late refusal)) = CompletesAfter command ahead source sink told (Err refusal)
-EndsAfter command ahead source sink told (Err (Early refusal)) = StopsAfter command ahead source sink told refusal
-EndsAfter command ahead source sink told (Err Usage) = ⊥
+abbrev pub EndsAfter : CommandView → ReadAheadView → Change → Change → List Notice → Watch → Result Done Fault → Type 0
+EndsAfter command ahead source sink told watch (Ok done) = CompletesAfter command ahead source sink told watch (Ok done)
+EndsAfter command ahead source sink told watch (Err (Late refusal)) =
+    CompletesAfter command ahead source sink told watch (Err refusal)
+EndsAfter command ahead source sink told watch (Err (Early refusal)) = StopsAfter command ahead source sink told watch refusal
+EndsAfter command ahead source sink told watch (Err Usage) = ⊥
 
--- how a run on these arguments ends: they are refused, and nothing was read or written; or it is known how their command ends
-abbrev pub EndsFrom : List Text → ReadAheadView → Change → Change → List Notice → Result Done Fault → Type 0
-EndsFrom arguments ahead source sink told outcome =
-    ((fault : Fault) × (outcome ≡ Err fault) × Refuses fault (command_of arguments) × IsUnread source × IsUnread sink × (told ≡ []))
-    ⊎ ((command : CommandView) × (command_of arguments ≡ Ok command) × EndsAfter command ahead source sink told outcome)
+-- arguments are refused, and nothing was read, written, told or seen
+pub record RefusesGiven (arguments : List Text) (source sink : Change) (told : List Notice) (watch : Watch) (fault : Fault)
+    : Type 0 where
+  pub why : Refuses fault (command_of arguments)
+  pub unread : IsUnread source
+  pub untouched : IsUnread sink
+  pub silent : told ≡ []
+  pub unseen : watch.font ≡ unseen
+
+-- how a run on these arguments ends: they are refused; or it is known how their command ends
+abbrev pub EndsFrom : List Text → ReadAheadView → Change → Change → List Notice → Watch → Result Done Fault → Type 0
+EndsFrom arguments ahead source sink told watch outcome =
+    ((fault : Fault) × (outcome ≡ Err fault) × RefusesGiven arguments source sink told watch fault)
+    ⊎ ((command : CommandView) × (command_of arguments ≡ Ok command) × EndsAfter command ahead source sink told watch outcome)
 
 -- ---- what was told
 

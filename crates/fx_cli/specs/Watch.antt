@@ -1,8 +1,7 @@
--- What a front learns of a run.
-use Rattle.std.specs.Prelude.{◌≡◌, ℕ, Bool, false, true, Option, Some, None, Result, Ok, Err, [], List, option_map}
+-- What a front learns of how a run ended.
+use Rattle.std.specs.Prelude.{◌≡◌, ℕ, Bool, false, true, Option, Some, None, Result, Ok, Err, List, option_map}
 use Rattle.fx_machine.specs.declared.program.FontProgram.{FontProgram}
 use Rattle.fx_machine.specs.declared.program.FontProgram.TheVariants.{Glyph}
-use Rattle.fx_fixed.specs.Changes.{Change}
 use Rattle.fx_request.specs.Advice.{advice_of}
 use Rattle.fx_request.specs.Refusals.{location_of, number_of}
 use Rattle.fx_request.specs.declared.location.Location.{Location}
@@ -15,23 +14,6 @@ use Rattle.fx_arguments.specs.declared.fault.Fault.TheVariants.{Early, Late}
 use Rattle.fx_front.specs.declared.facts.Counts.{Counts}
 use Rattle.fx_front.specs.declared.facts.Facts.{Facts}
 use Rattle.fx_front.specs.declared.facts.RefusalFacts.{RefusalFacts}
-use Rattle.fx_cli.specs.Runs.{Runs}
-
--- before a run
-abbrev pub unseen : Facts
-unseen = record {
-  strike = None;
-  refused = None;
-  start = None;
-  is_variable = false;
-  has_bitmaps = false;
-  missing = Some [];
-  has_more = false;
-  first = None;
-  is_cut = false;
-}
-
--- ---- how it ended
 
 -- the counts of a strike that was made
 abbrev pub counts_of : Result Done Fault → Option Counts
@@ -90,7 +72,3 @@ refused_of _ = None
 pub record Knows (outcome : Result Done Fault) (facts : Facts) : Type 0 where
   pub strike : facts.strike ≡ counts_of outcome
   pub refused : option_map seen_refused facts.refused ≡ refused_of outcome
-
--- a run, and what a front learns of how it ended
-abbrev pub RunsKnown : List (List ℕ) → Change → Change → Change → ℕ → Facts → Type 0
-RunsKnown given source sink err status facts = (runs : Runs given source sink err status) × Knows runs.outcome facts

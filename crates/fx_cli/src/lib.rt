@@ -9,6 +9,7 @@ mod missing;
 mod mkstrike;
 mod picture;
 mod program;
+mod seen;
 mod show;
 mod start;
 mod watch;

@@ -25,7 +25,7 @@ pub struct Missing {
 
 impl Missing {
     /// No range.
-    fn new(alloc: Global, names_all: bool) -> Missing
+    pub(crate) fn new(alloc: Global, names_all: bool) -> Missing
         ensures { Begun names_all [] result }
     {
         Missing {

@@ -7,6 +7,7 @@ ghost use Rattle.fx_cli.specs.Items.{fault_said, hyphen_of, item_said, meant_sai
 ghost use Rattle.fx_cli.specs.Items.{range_said, right_said, without_mark};
 
 use crate::program::{read_and_do, read_line_and_do};
+use crate::seen::unseen;
 use crate::watch::Watch;
 use fx_arguments::{ItemFault, ReadAhead, Teller, explain, wrong_item};
 use fx_fixed::{Sink, Source};
@@ -15,10 +16,10 @@ use fx_words::after_start;
 use std::alloc::{AllocError, Global};
 use std::marker::Model;
 
-/// The program, and what was seen of its last run. Contracts see what a front learns.
+/// The program, and what a front learns of its last run. Contracts see that.
 #[derive(Drop)]
 pub struct Mkstrike {
-    watch: Watch,
+    facts: Facts,
 }
 
 impl Model for Mkstrike {
@@ -26,18 +27,23 @@ impl Model for Mkstrike {
 
     ghost Value = { Facts };
 
-    ghost view = { λ m. m.watch.facts };
+    ghost view = { λ m. m.facts };
 }
 
 impl Mkstrike {
-    ghost use Rattle.fx_cli.specs.Watch.{unseen};
+    ghost use Rattle.std.specs.Prelude.{None};
+    ghost use Rattle.fx_cli.specs.Seen.{unseen};
 
     /// The program before a run.
     pub fn new(alloc: Global) -> Mkstrike
-        ensures { result ≡ unseen }
+        ensures { result ≡ record { strike = None; refused = None; font = unseen } }
     {
         Mkstrike {
-            watch: Watch::new(alloc),
+            facts: Facts {
+                strike: None,
+                refused: None,
+                font: unseen(alloc),
+            },
         }
     }
 }
@@ -45,9 +51,9 @@ impl Mkstrike {
 impl Tool for Mkstrike {
     ghost use Rattle.fx_arguments.specs.Mistakes.{checked, line_of};
     ghost use Rattle.fx_cli.specs.Items.{wrong_item_said};
-    ghost use Rattle.fx_cli.specs.Watch.{RunsKnown};
+    ghost use Rattle.fx_cli.specs.Runs.{Runs};
 
-    ghost Ran = { RunsKnown };
+    ghost Ran = { Runs };
 
     ghost learned = { λ facts. facts };
 
@@ -63,8 +69,7 @@ impl Tool for Mkstrike {
         out: &mut O,
         err: &mut E,
     ) -> u8 {
-        let mut watch = Watch::new(alloc);
-        watch.names_all = parts.names_all;
+        let mut watch = Watch::new(alloc, parts.names_all);
         let words = parts.words.as_slice();
         let mut teller = Teller::new(err);
         let outcome = if words.len() < 2 {
@@ -75,15 +80,14 @@ impl Tool for Mkstrike {
         };
         let status = teller.status(&outcome);
         teller.close();
-        watch.end(&outcome);
-        self.watch = watch;
+        self.facts = watch.end(&outcome);
         status
     }
 
     fn facts(&self) -> &Facts
         ensures { result.now ≡ self.now }
     {
-        &self.watch.facts
+        &self.facts
     }
 
     fn wrong(&self, alloc: Global, words: &[&str]) -> Result<String, AllocError> {

@@ -8,10 +8,12 @@ ghost use Rattle.fx_fixed.specs.Changes.{change_of};
 ghost use Rattle.fx_request.specs.declared.refusal.Refusal.TheVariants.{BadHex, OutOfMemory};
 ghost use Rattle.fx_cli.specs.Mapped.{all_mapped, chosen_of};
 ghost use Rattle.fx_cli.specs.Runs.{Ends, TaskLeaves, called, font_bytes};
+ghost use Rattle.fx_cli.specs.Seen.{unseen};
 ghost use Rattle.fx_cli.specs.Steps.{EndsFrom, Telling};
 
 use crate::faces::put_faces;
 use crate::mapped::mapped_of;
+use crate::seen::seen_of;
 use crate::show::put_picture;
 use crate::watch::Watch;
 use fx_arguments::{
@@ -37,8 +39,11 @@ pub(crate) fn read_line_and_do<R: Source, O: Sink, E: Sink>(
     requires reader { R.fault_count reader.old < 2 ^ 63 }
     requires out { O.fault_count out.old < 2 ^ 63 }
     requires given { length arguments.now ≤ 1 }
-    ensures { Telling teller.old teller.new (λ told. Ends (texts arguments.now)
-        (change_of R.left R.fault_count reader.old reader.new) (change_of O.held O.fault_count out.old out.new) told result) }
+    requires unseen { watch.old.font ≡ unseen }
+    ensures ends { Telling teller.old teller.new (λ told. Ends (texts arguments.now)
+        (change_of R.left R.fault_count reader.old reader.new) (change_of O.held O.fault_count out.old out.new) told watch.new
+        result) }
+    ensures names { watch.new.names_all ≡ watch.old.names_all }
 {
     let mut buffer = [0u8; LINE_BUFFER];
     let (filled, end) = read_line(reader, &mut buffer)?;
@@ -62,7 +67,7 @@ fn program_name<'a>(arguments: &[&'a str]) -> &'a str
 }
 
 /// Does what arguments ask for, with the font that it reads after what was read ahead. Tells a teller of refused characters, and
-/// shows a watch what the task came to.
+/// shows a watch that font, unless it stops before.
 pub(crate) fn read_and_do<R: Source, O: Sink, E: Sink>(
     alloc: Global,
     arguments: &[&str],
@@ -75,15 +80,18 @@ pub(crate) fn read_and_do<R: Source, O: Sink, E: Sink>(
     requires reader { R.fault_count reader.old < 2 ^ 63 }
     requires out { O.fault_count out.old < 2 ^ 63 }
     requires ended { ahead.now.ended ≡ true → IsAtEnd (R.left reader.old) }
-    ensures { Telling teller.old teller.new (λ told. EndsFrom (texts arguments.now) ahead.now
-        (change_of R.left R.fault_count reader.old reader.new) (change_of O.held O.fault_count out.old out.new) told result) }
+    requires unseen { watch.old.font ≡ unseen }
+    ensures ends { Telling teller.old teller.new (λ told. EndsFrom (texts arguments.now) ahead.now
+        (change_of R.left R.fault_count reader.old reader.new) (change_of O.held O.fault_count out.old out.new) told watch.new
+        result) }
+    ensures names { watch.new.names_all ≡ watch.old.names_all }
 {
     let command = read_arguments(alloc, arguments)?;
     let text = ahead.read_on(alloc, reader)?;
     let bytes = font_bytes(alloc, command.hex, text)?;
     let font = FontFile::new(&bytes, command.face);
     let outcome = run_task(alloc, &command.task, &font, out, teller);
-    watch.see(alloc, &command, &font, &outcome);
+    watch.font = seen_of(alloc, watch.names_all, &command, &font, &outcome);
     late(outcome)
 }
 
@@ -132,7 +140,7 @@ fn run_task<O: Sink, E: Sink>(
             Ok(Done::Listing)
         }
         Task::Trace(trace) => {
-            let there = trace_of(alloc, font, trace.ppem, trace.traced, out)?;
+            let there = trace_of(alloc, font, trace.ppem, trace.traced, trace.careful, out)?;
             Ok(Done::Trace(there))
         }
         Task::Faces => {

@@ -1,7 +1,9 @@
 -- Words of a frame whose rows and then columns were closed have the bits that drop-out control sets: `closed_pixels`.
 -- Serves `noted`.
-use Rattle.std.proofs.Common.{◌≡◌, ◌⊎◌, ◌↔◌, inl, inr, refl, sym, ◌∙◌, subst, ℕ, zero, suc, ◌+◌, ◌-◌, ◌*◌, ◌/◌, ◌%◌, ◌<◌, ◌≤◌, ℤ, pos}
-use Rattle.std.proofs.Common.{◌+ℤ◌, ◌-ℤ◌, Bool, true, false, IsTrue, List, ◌++◌, Any, get_or, map, take, drop, length, length-drop, arith}
+use Rattle.std.proofs.Common.{◌≡◌, ◌⊎◌, ◌↔◌, inl, inr, refl, sym, ◌∙◌, subst, ℕ, zero, suc, ◌+◌, ◌-◌, ◌*◌, ◌/◌, ◌%◌, ◌<◌, ◌≤◌, ℤ}
+use Rattle.std.proofs.Common.{pos}
+use Rattle.std.proofs.Common.{◌+ℤ◌, ◌-ℤ◌, Bool, true, false, IsTrue, List, ◌++◌, Any, get_or, map, take, drop, length, length-drop}
+use Rattle.std.proofs.Common.{arith}
 use Rattle.std.specs.Int.{bit_at}
 use Rattle.std.proofs.lemmas.List.{get_or-take, get_or-drop, length-take, take_at}
 use Rattle.std.proofs.lemmas.Nat.{div-mul-add, mod-mul-add}
@@ -29,17 +31,17 @@ use Rattle.fx_dropout.proofs.Opens.{past_word}
 from_in : (first : ℤ) (count n : ℕ) → n < count → IsFrom first count (first +ℤ pos n)
 from_in first count n l = (omega (arith, signed_linear), omega (arith, signed_linear, l))
 
-in_frame : (f : Frame) (n r : ℕ) → n < f.width → r < f.height → IsInFrame f (f.left +ℤ pos n) (f.bottom +ℤ pos r)
+pub in_frame : (f : Frame) (n r : ℕ) → n < f.width → r < f.height → IsInFrame f (f.left +ℤ pos n) (f.bottom +ℤ pos r)
 in_frame f n r l h = record { column = from_in f.left f.width n l; row = from_in f.bottom f.height r h }
 
-not_before : (first : ℤ) (count : ℕ) → ¬ (IsFrom first count (first -ℤ pos 1))
+pub not_before : (first : ℤ) (count : ℕ) → ¬ (IsFrom first count (first -ℤ pos 1))
 not_before first count i = omega (arith, signed_linear, i)
 
-not_after : (first : ℤ) (count : ℕ) → ¬ (IsFrom first count (first +ℤ pos count))
+pub not_after : (first : ℤ) (count : ℕ) → ¬ (IsFrom first count (first +ℤ pos count))
 not_after first count i = omega (arith, signed_linear, i)
 
 -- the bit of a pixel of a frame is that with its number
-pixel_bit : (f : Frame) (xs : List ℕ) (r k : ℕ) → r < f.height → k < f.width
+pub pixel_bit : (f : Frame) (xs : List ℕ) (r k : ℕ) → r < f.height → k < f.width
     → IsTrue (bit_of (record { frame = f; rows = rows_of f.height f.width xs }) (f.left +ℤ pos k) (f.bottom +ℤ pos r))
     ↔ (word_bit xs (pixel_number f r k) ≡ 1)
 pixel_bit f xs r k h l =
@@ -57,13 +59,22 @@ part_bit xs f r k h =
     ∙ (λ t. bit_at (get_or xs (at t) 0) (31 - bit t))
 
 -- the bits after a row's last pixel are 0
-unused_bit : (f : Frame) (xs : List ℕ) (r k : ℕ) → AreWords f.height f.width xs → r < f.height → f.width ≤ k → k < stride f
+pub unused_bit : (f : Frame) (xs : List ℕ) (r k : ℕ) → AreWords f.height f.width xs → r < f.height → f.width ≤ k → k < stride f
     → word_bit xs (pixel_number f r k) ≡ 0
 unused_bit f xs r k words h w l =
     let row : AreRowWords f.width (take (words_for f.width) (drop (r * words_for f.width) xs)) =
     subst (AreRowWords f.width) (cut-row f.height (words_for f.width) xs r h) (words.rows r h) in
     let count = row.count in
     sym (part_bit xs f r k l) ∙ row.unused k w (omega (arith, l, count))
+
+-- the bit before the first one of a row is 0: it is after the last pixel of the row below
+pub row_start : (f : Frame) (xs : List ℕ) → AreWords f.height f.width xs → (r : ℕ) → r < f.height
+    → bit_before 1 xs (pixel_number f r 0) ≡ 0
+row_start f xs words zero h = before_first 1 xs (pixel_number f 0 0) (omega arith)
+row_start f xs words (suc r) h =
+    let e : pixel_number f (suc r) 0 - 1 ≡ pixel_number f r (stride f - 1) = omega arith in
+    let z = unused_bit f xs r (stride f - 1) words (omega (arith, h)) (omega arith) (omega arith) in
+    before_past 1 xs (pixel_number f (suc r) 0) (omega arith) ∙ (λ t. word_bit xs (e t)) ∙ z
 
 -- a segment that leads to a pixel, by its column and its row
 cell_at : (c : Chooser) (up : Bool) (r k : ℕ) → k < stride c.frame → Reaches c up (pixel_number c.frame r k) ≡ IsReached c up k r
@@ -75,7 +86,7 @@ cell_at c up r k l = λ t. IsReached c up (column t) (row t)
     column : pixel_number c.frame r k % stride c.frame ≡ k
     column = mod-mul-add r (stride c.frame) k l
 
-on_covers : (p : Place) (ss : List Span) → Any (IsOn p) ss → IsCovered p ss
+pub on_covers : (p : Place) (ss : List Span) → Any (IsOn p) ss → IsCovered p ss
 unfolding IsCovered
 on_covers p ss a = inl a
 
@@ -118,13 +129,6 @@ module _ (ch : Chooser) (across up old mid new : List ℕ) (given : IsGiven ch a
       omega (arith, t, l, long, e)
 
   -- ---- the rows
-  row_start : (r : ℕ) → r < f.height → bit_before 1 old (pixel_number f r 0) ≡ 0
-  row_start zero h = before_first 1 old (pixel_number f 0 0) (omega arith)
-  row_start (suc r) h =
-      let e : pixel_number f (suc r) 0 - 1 ≡ pixel_number f r (stride f - 1) = omega arith in
-      let z = unused_bit f old r (stride f - 1) given.words (omega (arith, h)) (omega arith) (omega arith) in
-      before_past 1 old (pixel_number f (suc r) 0) (omega arith) ∙ (λ t. word_bit old (e t)) ∙ z
-
   row_closed : NoneOutside f ss → (r n : ℕ) → r < f.height → n < f.width
       → (word_bit mid (pixel_number f r n) ≡ 1) ↔ IsRowSet ch.closing ss f (f.left +ℤ pos n) (f.bottom +ℤ pos r)
   row_closed outside r n h l =
@@ -135,7 +139,7 @@ module _ (ch : Chooser) (across up old mid new : List ℕ) (given : IsGiven ch a
             let bit = pixel_bit f old r n h l in
             let is = given.scanned.bits (f.left +ℤ pos n) (f.bottom +ℤ pos r) (in_frame f n r l h) in
             (λ e. is.0 (bit.1 e), λ c. bit.0 (is.1 c));
-        start = row_start r h;
+        start = row_start f old given.words r h;
         end = unused_bit f old r f.width given.words h (omega arith) (omega arith);
         none = λ i. outside i (f.bottom +ℤ pos r);
         tells = λ k l off off'. given.noted.across r k h l (record {

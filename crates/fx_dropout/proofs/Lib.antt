@@ -7,3 +7,7 @@ pub mod Counts
 pub mod NoGaps
 pub mod Stretching
 pub mod Adding
+pub mod Decided
+pub mod Sums
+pub mod Priced
+pub mod Walked

@@ -80,7 +80,7 @@ module _ (ss : List Span) (In Right So : ℤ → ℤ → Type 0) (first j : ℤ)
       (subst (λ (b : ℕ). (b ≡ 0) ↔ ¬ (So (first +ℤ pos n) j)) (sym e) (clear n (omega (arith, l))))
 
   -- the segment k is open exactly if there is a gap
-  is_gap : (k : ℕ) (i : ℤ) → k ≤ count → i ≡ (first -ℤ pos 1) +ℤ pos k → IsOpenIn far noted words (place k) ↔ IsGap ss So i j
+  pub is_gap : (k : ℕ) (i : ℤ) → k ≤ count → i ≡ (first -ℤ pos 1) +ℤ pos k → IsOpenIn far noted words (place k) ↔ IsGap ss So i j
   is_gap k i l e = open_gap ss So i _ _ j _ _ _ e (omega (arith, signed_linear, e)) (clear_before k l) (clear k l) (line.tells k l)
 
   -- so a pixel closes the gap before it as the code has it

@@ -3,3 +3,4 @@ pub mod Pairs
 pub mod Places
 pub mod Closing
 pub mod Stretched
+pub mod Segments

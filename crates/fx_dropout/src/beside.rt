@@ -1,6 +1,6 @@
 //! Pieces beside all places of a segment.
 
-ghost use Rattle.std.specs.Prelude.{◌≡◌, ◌^◌, ◌<ℤ◌, IsTrue};
+ghost use Rattle.std.specs.Prelude.{◌≡◌, ◌↔◌, ◌^◌, ◌<ℤ◌, IsTrue};
 ghost use Rattle.fx_fixed.specs.Ranges.{IsWithin};
 ghost use Rattle.fx_winding.specs.Outside.{HasAll};
 ghost use Rattle.fx_winding.specs.Winding.{place_of, span_of};
@@ -24,7 +24,7 @@ fn coordinate(p: Point, axis: Axis) -> i32
 /// Whether all points of a piece lie after a coordinate along an axis: right of it, or above it.
 #[inline(always)]
 pub(crate) fn is_after(piece: &Piece, axis: Axis, limit: i32) -> bool
-    ensures { IsTrue result → HasAll (λ e. limit <ℤ coordinate_of axis e) (span_of piece.now) }
+    ensures { IsTrue result ↔ HasAll (λ e. limit <ℤ coordinate_of axis e) (span_of piece.now) }
 {
     coordinate(piece.a, axis) > limit
         && coordinate(piece.c, axis) > limit
@@ -37,7 +37,7 @@ pub(crate) fn is_after(piece: &Piece, axis: Axis, limit: i32) -> bool
 /// Whether all lie before it: left of it, or below it.
 #[inline(always)]
 pub(crate) fn is_before(piece: &Piece, axis: Axis, limit: i32) -> bool
-    ensures { IsTrue result → HasAll (λ e. coordinate_of axis e <ℤ limit) (span_of piece.now) }
+    ensures { IsTrue result ↔ HasAll (λ e. coordinate_of axis e <ℤ limit) (span_of piece.now) }
 {
     coordinate(piece.a, axis) < limit
         && coordinate(piece.c, axis) < limit

@@ -19,9 +19,9 @@ use fx_winding::{Frame, Piece, Pieces, Point, Tally, centre_of};
 /// Whether a piece, with its coordinates exchanged or not, adds nothing at all places from one on: it lies above, below or left of
 /// them.
 #[inline(always)]
-#[tactic(auto, using(fx_winding::proofs::Turning::all_turned))]
-fn is_missed(piece: &Piece, is_turned: bool, first: Point) -> bool
-    ensures { IsTrue result → IsMissed (place_of first) (seen_span is_turned (span_of piece.now)) }
+#[tactic(auto, using(crate::proofs::Decided::missed_turned))]
+pub(crate) fn is_missed(piece: &Piece, is_turned: bool, first: Point) -> bool
+    ensures { IsTrue result ↔ IsMissed (place_of first) (seen_span is_turned (span_of piece.now)) }
 {
     if is_turned {
         return is_after(piece, Axis::X, first.y)

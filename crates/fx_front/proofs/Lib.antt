@@ -1,4 +1,3 @@
-pub mod Ending
 pub mod Saying
 pub mod Stripped
 pub mod Following

@@ -39,8 +39,8 @@ file_said facts is_make output =
     then shown_with
     (codes "'%' is BDF, like every strike; strike --format of the package python3-mkstrike makes psf, pcf, otb, png, c and gfx")
     (unwrap_or output [])
-    else (if facts.is_variable then shown_text (codes "the font is a variable font, and this is its default instance")
-    else (if facts.has_bitmaps
+    else (if facts.font.is_variable then shown_text (codes "the font is a variable font, and this is its default instance")
+    else (if facts.font.has_bitmaps
     then shown_text
     (codes "the font has bitmaps of its own at this size, which are not used: the strike is drawn from its outlines")
     else []))
@@ -73,7 +73,7 @@ first_said missing (Some first) = if nat_lt 0 missing then code_said first else 
 abbrev pub no_glyph_said : Facts → Counts → PartsView → List ℕ
 no_glyph_said facts counts parts =
     shown_with (codes "the strike has no glyph: %") (why_no_glyph counts.missing (list_of parts) parts.words)
-    ++ first_said counts.missing facts.first
+    ++ first_said counts.missing facts.font.first
 
 -- which characters are missing, as far as they are named
 abbrev pub codes_said : List ℕ → Bool → List ℕ
@@ -95,13 +95,13 @@ missing_said count missing has_more =
 
 abbrev pub strike_said : Facts → Counts → Bool → PartsView → List ℕ
 strike_said facts counts is_blank parts =
-    if facts.is_cut
+    if facts.font.is_cut
     then shown_text (
     codes "the font has more than 65,536 characters, and the strike has only the first of them; --chars chooses others"
     )
     else (if counts.glyphs == 0
     then no_glyph_said facts counts parts
-    else (if nat_lt 0 counts.missing then missing_said counts.missing facts.missing facts.has_more
+    else (if nat_lt 0 counts.missing then missing_said counts.missing facts.font.missing facts.font.has_more
     else (if is_blank then shown_text (codes "no pixel of the strike is set: its characters are blank") else [])))
 
 -- ---- after a refusal
@@ -162,7 +162,7 @@ refusal_said refused start is_trace parts wrong_item =
 
 -- the first bytes of the font's file, if they are known
 abbrev pub start_of : Facts → Option (List ℕ)
-start_of facts = option_map (λ start. start.items) facts.start
+start_of facts = option_map (λ start. start.items) facts.font.start
 
 -- the second line after a run that is done
 abbrev pub done_said : Facts → Bool → PartsView → Option Counts → List ℕ

@@ -9,7 +9,7 @@ use Rattle.fx_front.specs.Asked.{asked_by, command_in, font_of, is_explained}
 use Rattle.fx_front.specs.Answered.{Answered}
 use Rattle.fx_front.specs.Kinds.{package_of}
 use Rattle.fx_front.specs.Lines.{SaysLine, Tells, shown_text, unwritten}
-use Rattle.fx_front.specs.Places.{Ends, ended_status, is_named}
+use Rattle.fx_front.specs.Places.{RunsTo, ended_status, is_named}
 use Rattle.fx_front.specs.Told.{told_first, told_second}
 use Rattle.fx_front.specs.declared.facts.Facts.{Facts}
 use Rattle.fx_front.specs.declared.run.Ended.{Ended}
@@ -75,16 +75,17 @@ after_unopened name why command =
 
 -- a program ran from one moment to another, of an input, a place and standard error, and ended so; then two lines followed, perhaps
 -- without bytes
-pub record RunsFrom {R P E : Type 0} (Ran : Change → Change → Change → ℕ → Facts → Type 0) (read : R → R → Change)
-    (Names : P → Option (List ℕ) → P → Type 0) (works : P → Bool) (fresh : Option (List ℕ)) (told : E → E → Change)
+pub record RunsFrom {R P N E : Type 0} (Ran : Change → Change → Change → ℕ → Facts → Type 0) (read : R → R → Change)
+    (Names : P → Option (List ℕ) → P → Type 0) (works : P → Bool) (fresh : Option (List ℕ)) (contents : N → Option (List ℕ))
+    (told : E → E → Change)
     (wrong : List Text → Text) (wrong_item : Text → List ℕ) (facts : Facts) (parts : PartsView) (command : Option Text)
     (was now : E) (status : ℕ) (input after : R) (place placed : P)
     : Type 0 where
   pub said : E
   pub between : E
   pub own : Ended
-  pub ends : Ends (λ sink own. Ran (read input after) sink (told was said) own facts) Names works fresh place placed
-      (is_named command (codes "trace")) facts status
+  pub ran : RunsTo (λ sink own. Ran (read input after) sink (told was said) own facts) Names works fresh contents place placed
+      (is_named command (codes "trace")) facts own
   pub ended : status ≡ ended_status own.status own.is_named
   pub first : Tells (told said between) (told_first facts own parts)
   pub second : Tells (told between now) (told_second facts own parts command wrong wrong_item)
@@ -97,15 +98,16 @@ InputBy Opens Unopened IsEmpty true input = IsEmpty input
 InputBy Opens Unopened IsEmpty false input = Opens None input ⊎ ((why : Text) × Unopened None why × IsEmpty input)
 
 -- the program; and what the system answers of a name: that it opens as this input, or why not; that it is this place, or why not
-module _ {R P E : Type 0} (Ran : List Text → Change → Change → Change → ℕ → Facts → Type 0) (wrong : List Text → Text)
+module _ {R P N E : Type 0} (Ran : PartsView → Change → Change → Change → ℕ → Facts → Type 0) (wrong : List Text → Text)
     (wrong_item : Text → List ℕ) (read : R → R → Change) (Names : P → Option (List ℕ) → P → Type 0) (works : P → Bool)
-    (fresh : Option (List ℕ)) (Opens : Option Text → R → Type 0) (Unopened : Option Text → Text → Type 0) (IsEmpty : R → Type 0)
+    (fresh : Option (List ℕ)) (contents : N → Option (List ℕ)) (Opens : Option Text → R → Type 0)
+    (Unopened : Option Text → Text → Type 0) (IsEmpty : R → Type 0)
     (Places : Option Text → P → Type 0) (Unplaced : Option Text → Text → Type 0) (told : E → E → Change) (facts : Facts)
   where
     -- it ran on these words
     abbrev pub RunsOn : PartsView → Option Text → E → E → ℕ → R → P → Type 0
     RunsOn parts command was now status input place = (after : R) × (placed : P)
-        × RunsFrom (Ran parts.words) read Names works fresh told wrong wrong_item facts parts command was now status input after
+        × RunsFrom (Ran parts) read Names works fresh contents told wrong wrong_item facts parts command was now status input after
         place placed
 
     -- it did not run: the output is not written, as a line says

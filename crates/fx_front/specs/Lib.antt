@@ -6,6 +6,7 @@ pub mod Told
 pub mod Asked
 pub mod Kinds
 pub mod Links
+pub mod NewFiles
 pub mod Targets
 pub mod Answered
 pub mod Fronts

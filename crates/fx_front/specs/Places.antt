@@ -1,5 +1,5 @@
 -- A run whose output is a file that is made late, and gets its name at the end.
-use Rattle.std.specs.Prelude.{◌≡◌, ◌⊎◌, ◌<◌, ◌≤◌, ◌==◌, ◌&&◌, ◌%◌, not, ℕ, Bool, true, false, List, [], ◌∷◌, codes, Option, Some, None}
+use Rattle.std.specs.Prelude.{◌≡◌, ◌⊎◌, ◌≤◌, ◌==◌, ◌&&◌, ◌%◌, not, ℕ, nat_lt, Bool, true, false, List, [], ◌∷◌, codes, Option, Some, None, is_some}
 use Rattle.std.specs.Prelude.{if◌then◌else◌}
 use Rattle.std.specs.Str.{bytes_eq}
 use Rattle.fx_fixed.specs.Changes.{Change}
@@ -7,6 +7,7 @@ use Rattle.fx_words.specs.Parts.{Text}
 use Rattle.fx_front.specs.declared.disk.Access.{Access}
 use Rattle.fx_front.specs.declared.facts.Facts.{Facts}
 use Rattle.fx_front.specs.declared.facts.RefusalFacts.{RefusalFacts}
+use Rattle.fx_front.specs.declared.run.Ended.{Ended}
 
 -- what the file holds; before it is made, what a new one would hold
 abbrev pub held_by : {New : Type 0} → (New → Option (List ℕ)) → Option (List ℕ) → Option New → Option (List ℕ)
@@ -35,38 +36,26 @@ keeps is_trace status facts = is_trace && (status == 1 && has_halted facts.refus
 abbrev pub IsKept : Bool → Facts → ℕ → Type 0
 IsKept is_trace facts status = (status ≡ 0) ⊎ (keeps is_trace status facts ≡ true)
 
--- a program ran with a sink that held at first what a new file holds, and at the end `held`. If the file got its name, the status
--- is 0 or a trace halted, and these are its bytes; if not, the place is as it was. At a place that works for certain it gets its
--- name after status 0
-pub record RunsTo {Place : Type 0} (Ran : Change → ℕ → Type 0) (Names : Place → Option (List ℕ) → Place → Type 0)
-    (works : Place → Bool) (fresh : Option (List ℕ)) (was now : Place) (is_trace : Bool) (facts : Facts)
-    (status : ℕ) (is_named : Bool)
+-- a program ran with a sink that held at first what a new file holds, and at the end what `new` does, if that file was made. What
+-- is said of its end is true: its status; whether the file was to be made, and was not; and whether it got its name. If it did, the
+-- status is 0 or a trace halted, and these are its bytes; if not, the place is as it was. At a place that works for certain it gets
+-- its name after status 0
+pub record RunsTo {Place New : Type 0} (Ran : Change → ℕ → Type 0) (Names : Place → Option (List ℕ) → Place → Type 0)
+    (works : Place → Bool) (fresh : Option (List ℕ)) (contents : New → Option (List ℕ)) (was now : Place) (is_trace : Bool)
+    (facts : Facts) (ended : Ended)
     : Type 0 where
-  pub held : Option (List ℕ)
+  pub new : Option New
   pub faults : ℕ
-  pub ran : Ran (record { bytes_before = fresh; bytes = held; faults_before = 0; faults = faults }) status
-  pub named : is_named ≡ true → IsKept is_trace facts status × Names was held now
-  pub spared : is_named ≡ false → now ≡ was
-  pub sure : status ≡ 0 → works was ≡ true → is_named ≡ true
+  pub ran : Ran (record { bytes_before = fresh; bytes = held_by contents fresh new; faults_before = 0; faults = faults })
+      ended.status
+  pub unmade : ended.is_unmade ≡ (nat_lt 0 faults && not (is_some new))
+  pub named : ended.is_named ≡ true → IsKept is_trace facts ended.status × Names was (held_by contents fresh new) now
+  pub spared : ended.is_named ≡ false → now ≡ was
+  pub sure : ended.status ≡ 0 → works was ≡ true → ended.is_named ≡ true
 
 -- the status that the user gets: 1 if the run was done and its file did not get the name, else the program's own
 abbrev pub ended_status : ℕ → Bool → ℕ
 ended_status status is_named = if status == 0 && not is_named then 1 else status
-
--- how a run ends, by the status that the user gets. 0: the program was done, and a file with all that it wrote got the name. Else
--- what had the name has it as before, or a trace halted and a file with its lines got the name. At a place that works for certain
--- the status is 0 if the program was done
-pub record Ends {Place : Type 0} (Ran : Change → ℕ → Type 0) (Names : Place → Option (List ℕ) → Place → Type 0)
-    (works : Place → Bool) (fresh : Option (List ℕ)) (was now : Place) (is_trace : Bool) (facts : Facts) (status : ℕ)
-    : Type 0 where
-  pub held : Option (List ℕ)
-  pub faults : ℕ
-  pub own : ℕ
-  pub ran : Ran (record { bytes_before = fresh; bytes = held; faults_before = 0; faults = faults }) own
-  pub done : status ≡ 0 → (own ≡ 0) × Names was held now
-  pub failed : 0 < status → (now ≡ was) ⊎ ((keeps is_trace own facts ≡ true) × Names was held now)
-  pub wrong : (own ≡ 0) ⊎ (status ≡ own)
-  pub sure : own ≡ 0 → works was ≡ true → status ≡ 0
 
 -- the bits of a mode that say who may read, write and run a file: all but those by which a program runs as its owner or group, and
 -- the one that keeps others' files in a folder

@@ -82,9 +82,9 @@ fn add_font_or_file(text: &mut Text, facts: &Facts, task: &AskedRun<'_, '_>)
 {
     if task.parts.is_make && is_other(task.parts.output) {
         text.add_with(IS_BDF, task.output_name());
-    } else if facts.is_variable {
+    } else if facts.font.is_variable {
         text.add_text(IS_VARIABLE);
-    } else if facts.has_bitmaps {
+    } else if facts.font.has_bitmaps {
         text.add_text(HAS_BITMAPS);
     }
 }
@@ -144,7 +144,7 @@ fn add_strike(
 )
     ensures { Says text.old text.new (strike_said facts.now counts is_blank (seen task.now.parts.now)) }
 {
-    if facts.is_cut {
+    if facts.font.is_cut {
         text.add_text(IS_CUT);
     } else if counts.glyphs == 0 {
         add_no_glyph(text, task, facts, counts);
@@ -160,7 +160,7 @@ fn add_no_glyph(text: &mut Text, task: &AskedRun<'_, '_>, facts: &Facts, counts:
     ensures { Says text.old text.new (no_glyph_said facts.now counts (seen task.now.parts.now)) }
 {
     text.add_with("the strike has no glyph: %", why_no_glyph(task, counts));
-    add_first(text, facts.first, counts.missing);
+    add_first(text, facts.font.first, counts.missing);
 }
 
 /// Adds where the characters of a font begin that has none of the requested ones, as a symbol font or a font of icons.
@@ -200,11 +200,11 @@ fn why_no_glyph(task: &AskedRun<'_, '_>, counts: Counts) -> &'static str
 
 /// Adds which characters are missing.
 fn add_missing(text: &mut Text, facts: &Facts, count: u32)
-    ensures { Says text.old text.new (missing_said count facts.now.missing facts.now.has_more) }
+    ensures { Says text.old text.new (missing_said count facts.now.font.missing facts.now.font.has_more) }
 {
     text.add_number(u64::from(count));
     text.add_text(are_missing(count));
-    add_named(text, &facts.missing, facts.has_more);
+    add_named(text, &facts.font.missing, facts.font.has_more);
 }
 
 /// That this number of characters is missing.
@@ -249,7 +249,7 @@ fn add_refusal<G: Tool>(
         (is_named (text_in task.now.command) (codes "trace")) (seen task.now.parts.now) G.wrong_item) }
 {
     let advice = refused.advice;
-    match (refused.number, &program.facts().start) {
+    match (refused.number, &program.facts().font.start) {
         (10, Some(start)) => text.add_text(known_kind(start).unwrap_or(advice)),
         (17..=23, _) if task.parts.is_make => {
             text.add_with("%; --refused leave-out does so", advice)

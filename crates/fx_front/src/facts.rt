@@ -23,13 +23,9 @@ pub struct RefusalFacts {
     pub is_halted_glyph: bool,
 }
 
-/// What a front learns of a run.
+/// What a front learns of the font of a run.
 #[derive(Drop)]
-pub struct Facts {
-    /// The strike that was made.
-    pub strike: Option<Counts>,
-    /// The refusal.
-    pub refused: Option<RefusalFacts>,
+pub struct FontFacts {
     /// The first bytes of the font's file, if it was read and is not hexadecimal text.
     pub start: Option<Vec<u8>>,
     /// Whether the font is a variable font.
@@ -43,4 +39,15 @@ pub struct Facts {
     pub first: Option<u32>,
     /// Whether the font has more characters than the strike takes.
     pub is_cut: bool,
+}
+
+/// What a front learns of a run.
+#[derive(Drop)]
+pub struct Facts {
+    /// The strike that was made.
+    pub strike: Option<Counts>,
+    /// The refusal.
+    pub refused: Option<RefusalFacts>,
+    /// Its font.
+    pub font: FontFacts,
 }

@@ -47,16 +47,15 @@ pub fn answer_or_run<G: Tool, F: Files, O: Sink, E: Sink>(
     requires err { E.fault_count err.old < 2 ^ 62 }
     ensures came { IfOk result (λ status. (is_terminal : Bool) × F.IsTerminal files.now is_terminal
         × CameTo G.Ran G.wrong_in G.wrong_item (change_of F.Input.left F.Input.fault_count)
-        F.Place.Names F.Place.works F.Place.fresh (F.Opens files.now) (F.Unopened files.now) F.IsEmpty (F.Places files.now)
-        (F.Unplaced files.now) (change_of E.held E.fault_count) (G.learned program.new)
+        F.Place.Names F.Place.works F.Place.fresh F.Place.New.contents (F.Opens files.now) (F.Unopened files.now) F.IsEmpty
+        (F.Places files.now) (F.Unplaced files.now) (change_of E.held E.fault_count) (G.learned program.new)
         is_terminal (texts words.now) (change_of O.held O.fault_count out.old out.new) err.old err.new status) }
     ensures status { IfOk result IsStatus }
 {
     let is_terminal = files.has_terminal();
     let asked = asked_by(words, is_terminal);
-    match answer(alloc, &asked, out, err) {
-        Some(status) => return Ok(status),
-        None => {}
+    if let Some(status) = answer(alloc, &asked, out, err) {
+        return Ok(status);
     }
     let (command, count) = command_in(words);
     let (before, after) = words.split_at(count);
@@ -122,8 +121,8 @@ fn run_on_streams<G: Tool, F: Files, E: Sink>(
 ) -> u8
     requires { E.fault_count err.old < 2 ^ 63 }
     ensures ran { RunsUnnamed G.Ran G.wrong_in G.wrong_item (change_of F.Input.left F.Input.fault_count)
-        F.Place.Names F.Place.works F.Place.fresh (F.Opens files.now) (F.Unopened files.now) F.IsEmpty (F.Places files.now)
-        (F.Unplaced files.now) (change_of E.held E.fault_count) (G.learned program.new)
+        F.Place.Names F.Place.works F.Place.fresh F.Place.New.contents (F.Opens files.now) (F.Unopened files.now) F.IsEmpty
+        (F.Places files.now) (F.Unplaced files.now) (change_of E.held E.fault_count) (G.learned program.new)
         (seen task.now.parts.now) (text_in task.now.command) is_explained err.old err.new result }
     ensures status { IsStatus result }
 {
@@ -198,8 +197,8 @@ fn run_on_files<G: Tool, F: Files, E: Sink>(
 ) -> Result<u8, AllocError>
     requires { E.fault_count err.old < 2 ^ 63 }
     ensures ran { IfOk result (λ status. RunsNamed G.Ran G.wrong_in G.wrong_item (change_of F.Input.left F.Input.fault_count)
-        F.Place.Names F.Place.works F.Place.fresh (F.Opens files.now) (F.Unopened files.now) F.IsEmpty (F.Places files.now)
-        (F.Unplaced files.now) (change_of E.held E.fault_count) (G.learned program.new)
+        F.Place.Names F.Place.works F.Place.fresh F.Place.New.contents (F.Opens files.now) (F.Unopened files.now) F.IsEmpty
+        (F.Places files.now) (F.Unplaced files.now) (change_of E.held E.fault_count) (G.learned program.new)
         (seen task.now.parts.now) (text_in task.now.command) err.old err.new status) }
     ensures status { IfOk result IsStatus }
 {
@@ -245,8 +244,8 @@ fn refuse_font<G: Tool, F: Files, E: Sink>(
     requires why { F.Unopened files.now (font_of (text_in task.now.parts.now.font)) why.now }
     requires err { E.fault_count err.old < 2 ^ 63 }
     ensures ran { IfOk result (λ status. RefusesFont G.Ran G.wrong_in G.wrong_item (change_of F.Input.left F.Input.fault_count)
-        F.Place.Names F.Place.works F.Place.fresh (F.Opens files.now) (F.Unopened files.now) F.IsEmpty (F.Places files.now)
-        (F.Unplaced files.now) (change_of E.held E.fault_count) (G.learned program.new)
+        F.Place.Names F.Place.works F.Place.fresh F.Place.New.contents (F.Opens files.now) (F.Unopened files.now) F.IsEmpty
+        (F.Places files.now) (F.Unplaced files.now) (change_of E.held E.fault_count) (G.learned program.new)
         (seen task.now.parts.now) (text_in task.now.command) err.old err.new status) }
     ensures status { IfOk result IsStatus }
 {

@@ -93,6 +93,8 @@ Pixels:
     --dropout[=WHAT]      keep thin strokes whole, by left pixels (left, the
                           default), by nearer ones (near), or as the font asks
                           (font)
+    --careful             refuse a character that takes too much work, for fonts
+                          that you don't trust
 
 Font:
 
@@ -126,6 +128,8 @@ const SHOW: &str = "mkstrike show writes the picture of one glyph.
     --dropout[=WHAT]  keep thin strokes whole, by left pixels (left, the
                       default), by nearer ones (near), or as the font asks
                       (font)
+    --careful         refuse a character that takes too much work, for fonts
+                      that you don't trust
     --face N          which font of a collection, counted from 0; the first by
                       default
     --hex             the font is hexadecimal text
@@ -147,6 +151,8 @@ const OUTLINE: &str =
     --glyph G   a glyph by its number in the font, counted from 0, in place of
                 --char
     --unhinted  do not run the font's own programs
+    --careful   refuse a character that takes too much work, for fonts that you
+                don't trust
     --face N    which font of a collection, counted from 0; the first by default
     --hex       the font is hexadecimal text
     -o FILE     write to FILE, which appears only when it is complete; - is
@@ -182,6 +188,8 @@ execute, in order.
     --glyph G   the programs of a glyph, by its number in the font, counted from
                 0
     --of WHAT   the program fpgm or prep, or the number of a glyph
+    --careful   refuse programs that do too much work, for fonts that you don't
+                trust
     --face N    which font of a collection, counted from 0; the first by default
     --hex       the font is hexadecimal text
     -o FILE     write to FILE, which appears only when it is complete; - is
@@ -214,7 +222,7 @@ or what a refusal means and what to do.
 ";
 
 /// What `mkstrike explain` prints of each refusal, by its number and its name, as docs/REFUSALS.md has it.
-pub(crate) const REFUSALS: [(&str, &str); 41] = [
+pub(crate) const REFUSALS: [(&str, &str); 42] = [
     ("10 NotTrueType", REFUSAL_10),
     ("11 TableMissing", REFUSAL_11),
     ("12 TableShort", REFUSAL_12),
@@ -245,6 +253,7 @@ pub(crate) const REFUSALS: [(&str, &str); 41] = [
     ("41 StrayEnd", REFUSAL_41),
     ("51 TooFar", REFUSAL_51),
     ("52 GlyphTooLarge", REFUSAL_52),
+    ("53 TooMuchWork", REFUSAL_53),
     ("60 BadSize", REFUSAL_60),
     ("61 BadChars", REFUSAL_61),
     ("62 BadName", REFUSAL_62),
@@ -402,6 +411,12 @@ const REFUSAL_52: &str = "52 GlyphTooLarge: the glyph is wider or higher than 8,
 drop-out control a glyph whose box holds no pixel centre is never too
 large.
 What to do: use a smaller size.
+";
+
+const REFUSAL_53: &str = "53 TooMuchWork: only with --careful: running a character's programs, or
+drawing it, takes more work than is allowed for one character, or for all
+of them together; or fpgm and prep take more than is allowed for one.
+What to do: if you trust the font, leave --careful out.
 ";
 
 const REFUSAL_60: &str = "60 BadSize: the size is 0 or above 1,024 pixels an em.

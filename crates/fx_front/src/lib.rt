@@ -18,6 +18,7 @@ mod lines;
 mod listed;
 mod meant;
 mod mistaken;
+mod new_file;
 mod output;
 mod packages;
 mod paths;
@@ -29,7 +30,7 @@ mod tool;
 
 pub use asked::AskedRun;
 pub use destination::Destination;
-pub use facts::{Counts, Facts, RefusalFacts};
+pub use facts::{Counts, Facts, FontFacts, RefusalFacts};
 pub use files::Files;
 pub use front::{answer_or_run, say_not_text};
 pub use fx_words::Parts;

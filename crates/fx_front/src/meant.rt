@@ -17,18 +17,21 @@ use strsim::levenshtein;
 const OPTIONS: [(&str, &str); 6] = [
     (
         "make",
-        "--ppem --chars --set --all --name --property --x11 --refused --missing --unhinted --dropout --face --hex -o",
+        "--ppem --chars --set --all --name --property --x11 --refused --missing --unhinted --dropout --careful --face --hex -o",
     ),
     (
         "show",
-        "--ppem --char --glyph --unhinted --dropout --face --hex -o",
+        "--ppem --char --glyph --unhinted --dropout --careful --face --hex -o",
     ),
     (
         "outline",
-        "--ppem --char --glyph --unhinted --face --hex -o",
+        "--ppem --char --glyph --unhinted --careful --face --hex -o",
     ),
     ("dump", "--of --face --hex -o"),
-    ("trace", "--ppem --char --glyph --of --face --hex -o"),
+    (
+        "trace",
+        "--ppem --char --glyph --of --careful --face --hex -o",
+    ),
     ("faces", "--hex -o"),
 ];
 

@@ -1,9 +1,7 @@
 //! The output by its name.
-ghost use Rattle.std.specs.Prelude.{◌≡◌};
-ghost use Rattle.fx_front.specs.Places.{kept_mode, new_mode};
-
 use crate::destination::Destination;
-use crate::disk::Access;
+use crate::disk::{Access, SystemDisk};
+use crate::new_file::{Names, NewFile, give_name, make_new};
 use crate::paths::{beside_streams, in_folder};
 use crate::target::{DENIED, Target};
 use std::fs::{File, Permissions};
@@ -13,12 +11,6 @@ use std::random::RandomSource;
 use std::{fs, io};
 
 const NOT_OPENED: &str = "the system can't open it";
-
-/// The mode of a new file, until it takes over that of an older one: only its owner may read and write it.
-const PRIVATE: u32 = 0o600;
-
-/// The mode that a new file asks for if it replaces none; the system takes away what the user's mask says.
-const SHARED: u32 = 0o666;
 
 /// Where the output goes.
 #[derive(Drop)]
@@ -82,49 +74,76 @@ fn device_of(rt: &HostRuntime, name: &str) -> Result<Output, &'static str> {
     }
 }
 
-/// Makes a file beside this name, which takes over this access. Its name is random, so that no file of another run has it.
+/// Makes a file beside this name, which takes over this access.
 fn make_beside(rt: &HostRuntime, name: &str, older: Option<Access>) -> Option<OpenOutput> {
+    let made = name_beside(rt, name)?;
+    let file = make_new(&mut SystemDisk { rt }, made.as_str(), older)?;
+    Some(OpenOutput::New(file, made))
+}
+
+/// A random name in the folder of this one, so that no file of another run has it.
+fn name_beside(rt: &HostRuntime, name: &str) -> Option<String> {
     let mut bytes = [0; 8];
     rt.fill_bytes(&mut bytes).ok()?;
     let number = u64::from_le_bytes(bytes);
     let label = format!(in rt.alloc(); ".mkstrike-{number:016x}").ok()?;
-    let made = in_folder(rt.alloc(), name, label.as_str()).ok()?;
-    let opened = File::options()
-        .write(true)
-        .create_new(true)
-        .mode(new_mode(older))
-        .open(rt, made.as_str())
-        .ok()?;
-    let Some(file) = beside_streams(opened) else {
-        let _ = fs::remove_file(rt, made.as_str());
-        return None;
-    };
-    if let Some(older) = older {
-        take_over(&file, older);
+    in_folder(rt.alloc(), name, label.as_str()).ok()
+}
+
+impl NewFile for File {
+    ghost use Rattle.std.specs.Prelude.{⊤};
+
+    ghost Gives = { λ _ _ _ _ _. ⊤ };
+
+    ghost Sets = { λ _ _ _ _. ⊤ };
+
+    ghost Stores = { λ _ _. ⊤ };
+
+    fn give(&mut self, owner: Option<u32>, group: u32) -> bool {
+        fchown(&*self, owner, Some(group)).is_ok()
     }
-    Some(OpenOutput::New(file, made))
-}
 
-/// Gives a new file an older one's owner, group and mode, as far as the system allows.
-fn take_over(file: &File, older: Access) {
-    if fchown(file, Some(older.owner), Some(older.group)).is_err() {
-        let _ = fchown(file, None, Some(older.group));
+    fn set_mode(&mut self, mode: u32) -> bool {
+        self.set_permissions(Permissions::from_mode(mode)).is_ok()
     }
-    let _ = file.set_permissions(Permissions::from_mode(kept_mode(older.mode)));
+
+    fn store(self) -> bool {
+        self.sync_all().is_ok()
+    }
 }
 
-/// The mode that a new file is made with.
-fn new_mode(older: Option<Access>) -> u32
-    ensures { result ≡ new_mode older }
-{
-    if older.is_some() { PRIVATE } else { SHARED }
-}
+impl<'a> Names for SystemDisk<'a> {
+    ghost use Rattle.std.specs.Prelude.{⊤};
 
-/// What a new file keeps of an older one's mode: who may read, write and run it. No program ever runs by it as its owner or group.
-fn kept_mode(mode: u32) -> u32
-    ensures { result ≡ kept_mode mode }
-{
-    mode % 0o1000
+    type File = File;
+
+    ghost Makes = { λ _ _ _ _ _. ⊤ };
+
+    ghost Renames = { λ _ _ _ _ _. ⊤ };
+
+    ghost Removes = { λ _ _ _. ⊤ };
+
+    fn make(&mut self, name: &str, mode: u32) -> Option<File> {
+        let opened = File::options()
+            .write(true)
+            .create_new(true)
+            .mode(mode)
+            .open(self.rt, name)
+            .ok()?;
+        let file = beside_streams(opened);
+        if file.is_none() {
+            self.remove(name);
+        }
+        file
+    }
+
+    fn rename(&mut self, made: &str, name: &str) -> bool {
+        fs::rename(self.rt, made, name).is_ok()
+    }
+
+    fn remove(&mut self, made: &str) {
+        let _ = fs::remove_file(self.rt, made);
+    }
 }
 
 impl<'a> Destination for Outlet<'a> {
@@ -148,19 +167,14 @@ impl<'a> Destination for Outlet<'a> {
         let (OpenOutput::New(file, made), Output::New(name, _)) = (new, &self.output) else {
             return true;
         };
-        let is_stored = file.sync_all().is_ok();
-        drop(file);
-        if is_stored && fs::rename(self.rt, made.as_str(), name.as_str()).is_ok() {
-            return true;
-        }
-        let _ = fs::remove_file(self.rt, made.as_str());
-        false
+        let mut disk = SystemDisk { rt: self.rt };
+        give_name(&mut disk, file, made.as_str(), name.as_str())
     }
 
     fn remove(&self, new: OpenOutput) {
         if let OpenOutput::New(file, made) = new {
             drop(file);
-            let _ = fs::remove_file(self.rt, made.as_str());
+            SystemDisk { rt: self.rt }.remove(made.as_str());
         }
     }
 }

@@ -1,7 +1,7 @@
 //! A run of a program, whose output is a new file at a place.
-ghost use Rattle.std.specs.Prelude.{◌≡◌, ◌⊎◌, ◌<◌, ◌^◌, true, false};
+ghost use Rattle.std.specs.Prelude.{◌≡◌, ◌⊎◌, ◌<◌, ◌^◌, ◌&&◌, true, false, is_some, nat_lt, not};
 ghost use Rattle.fx_fixed.specs.Changes.{change_of};
-ghost use Rattle.fx_words.specs.Parts.{seen, text_in, texts};
+ghost use Rattle.fx_words.specs.Parts.{seen, text_in};
 ghost use Rattle.fx_front.specs.Fronts.{RunsFrom};
 ghost use Rattle.fx_front.specs.Places.{IsStatus, ended_status, held_by, keeps};
 ghost use Rattle.fx_front.specs.Lines.{SaysLine, Tells, unwritten};
@@ -42,7 +42,7 @@ pub fn run_to_file<G: Tool, P: Destination, R: Source, E: Sink>(
 ) -> u8
     requires reader { R.fault_count reader.old < 2 ^ 63 }
     requires err { E.fault_count err.old < 2 ^ 63 }
-    ensures ran { RunsFrom (G.Ran (texts task.now.parts.now.words.items)) (change_of R.left R.fault_count) P.Names P.works P.fresh
+    ensures ran { RunsFrom (G.Ran (seen task.now.parts.now)) (change_of R.left R.fault_count) P.Names P.works P.fresh P.New.contents
         (change_of E.held E.fault_count) G.wrong_in G.wrong_item (G.learned program.new) (seen task.now.parts.now)
         (text_in task.now.command) err.old err.new result reader.old reader.new place.old place.new }
     ensures status { IsStatus result }
@@ -50,9 +50,9 @@ pub fn run_to_file<G: Tool, P: Destination, R: Source, E: Sink>(
     let mut late = Late::new(&*place);
     let status = program.run(alloc, task.parts, reader, &mut late, err);
     let is_blank = late.is_blank();
-    let has_faults = late.faults() > 0;
+    let faults = late.faults();
     let new = late.close();
-    let is_unmade = has_faults && new.is_none();
+    let is_unmade = is_unmade(faults, &new);
     let is_kept = keeps(&*program, task.is("trace"), status);
     let ended = Ended {
         status,
@@ -62,6 +62,13 @@ pub fn run_to_file<G: Tool, P: Destination, R: Source, E: Sink>(
     };
     say_end(alloc, &*program, task, ended, err);
     ended_status(ended.status, ended.is_named)
+}
+
+/// Whether a file was to be made, and was not: the sink that makes it counted faults.
+fn is_unmade<N>(faults: u64, new: &Option<N>) -> bool
+    ensures { result ≡ (nat_lt 0 faults && not (is_some new.now)) }
+{
+    faults > 0 && new.is_none()
 }
 
 /// The status for the user: 1 if the run was done and its file did not get its name, else the program's own.

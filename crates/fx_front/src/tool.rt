@@ -9,7 +9,7 @@ use std::alloc::{AllocError, Global};
 pub trait Tool {
     ghost use Rattle.std.specs.Prelude.{◌≡◌, ◌<◌, ◌^◌, ℕ, List, IfOk, string_bytes};
     ghost use Rattle.fx_fixed.specs.Changes.{Change, change_of};
-    ghost use Rattle.fx_words.specs.Parts.{texts};
+    ghost use Rattle.fx_words.specs.Parts.{PartsView, seen, texts};
     ghost use Rattle.fx_front.specs.Lines.{Says};
     ghost use Rattle.fx_front.specs.Places.{IsStatus};
     ghost use Rattle.fx_front.specs.declared.facts.Facts.{Facts};
@@ -17,9 +17,9 @@ pub trait Tool {
     // What a front learns of the last run.
     ghost learned: { Self → Facts };
 
-    // A run on these words, the program's name first: what became of its source, its sink and its lines, its status, and what a
+    // A run on the words for the program, its name first: what became of its source, its sink and its lines, its status, and what a
     // front learns of it.
-    ghost Ran: { List (List ℕ) → Change → Change → Change → ℕ → Facts → Type 0 };
+    ghost Ran: { PartsView → Change → Change → Change → ℕ → Facts → Type 0 };
 
     // The line that says what is wrong first with words after the program's name. It has no bytes if nothing is.
     ghost wrong_in: { List (List ℕ) → List ℕ };
@@ -40,7 +40,7 @@ pub trait Tool {
         requires reader { R.fault_count reader.old < 2 ^ 63 }
         requires out { O.fault_count out.old < 2 ^ 63 }
         requires err { E.fault_count err.old < 2 ^ 63 }
-        ensures ran { Ran (texts parts.now.words.items) (change_of R.left R.fault_count reader.old reader.new)
+        ensures ran { Ran (seen parts.now) (change_of R.left R.fault_count reader.old reader.new)
             (change_of O.held O.fault_count out.old out.new) (change_of E.held E.fault_count err.old err.new) result
             (learned self.new) }
         ensures status { IsStatus result };

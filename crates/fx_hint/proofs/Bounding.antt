@@ -18,9 +18,9 @@ use Rattle.fx_hint.specs.declared.fault.HintFault.{HintFault}
 use Rattle.fx_hint.specs.declared.fault.HintFault.TheVariants.{OutOfMemory}
 use Rattle.fx_hint.specs.Faults.{Fails}
 use Rattle.fx_hint.specs.Programmed.{hinted_events}
-use Rattle.fx_hint.specs.Runs.{ProgramRun, AreFirst, HasRun}
+use Rattle.fx_hint.specs.Runs.{ProgramRun, AreFirst, HasRun, StopsAfter}
 use Rattle.fx_hint.specs.Watched.{RunEvent, WatchesAll, WatchesRuns, events_for, run_events}
-use Rattle.fx_hint.specs.Bounded.{events_in}
+use Rattle.fx_hint.specs.Bounded.{events_in, IfCaused}
 
 only_events : (c : Option ComponentOf) (es : List Event) → map (λ (x : RunEvent). x.event) (events_for c es) ≡ es
 only_events c [] = refl
@@ -68,6 +68,12 @@ module _ {S V : Type 0} (known : S → Known) (part : S → V) (budget : V → W
     left_by_runs runs l =
         let P : List Event → Type 0 = λ es. Budgets (budget (part x)) es (budget (part y)) in
         is_paid _ _ _ (subst P (events_are (known x) runs) (pays_for (part x) (part y) _ l.1))
+
+    -- also after a program that halted
+    pub left_by_fault : (e : HintFault) (runs : List ProgramRun) → StopsAfter Leads x y e runs
+        → IfCaused e ((budget (part y)).left ≡ left_by runs)
+    left_by_fault OutOfMemory runs l = tt
+    left_by_fault f runs l = left_by_runs runs l
 
     spent_here : (runs : List ProgramRun) → Leads x runs y → is_none (budget (part y)).left ≡ true → is_none (left_by runs) ≡ true
     spent_here runs l e = rw (left_by_runs runs l) at e

@@ -1,5 +1,5 @@
 -- The outline of a glyph whose programs have a budget of work.
-use Rattle.std.specs.Prelude.{ℕ, List, Option, Some, None, is_none, if◌then◌else◌, Result, Ok}
+use Rattle.std.specs.Prelude.{ℕ, List, Option, Some, None, is_none, if◌then◌else◌, Result, Ok, Err}
 use Rattle.std.specs.List.{flat_map}
 use Rattle.fx_fixed.specs.Chain.{map_ok}
 use Rattle.fx_sfnt.specs.Tables.{Face}
@@ -9,6 +9,7 @@ use Rattle.fx_machine.specs.Known.{Known}
 use Rattle.fx_machine.specs.Work.{work_from, paid}
 use Rattle.fx_machine.specs.declared.work.WorkBudget.{WorkBudget}
 use Rattle.fx_hint.specs.declared.fault.HintFault.{HintFault}
+use Rattle.fx_hint.specs.declared.fault.HintFault.TheVariants.{OutOfMemory}
 use Rattle.fx_hint.specs.Outlines.{GlyphOutlineView, outline_with}
 use Rattle.fx_hint.specs.Programmed.{hinting_of, hinted_events}
 use Rattle.fx_hint.specs.Runs.{ProgramRun, runs_of}
@@ -27,3 +28,13 @@ unfoldable pub outline_within : Known → WorkBudget → Face → ℕ → ℕ �
 outline_within known b face ppem g =
     if is_none (left_after known b face ppem g) then Ok None
     else map_ok Some (outline_with (hinting_of known) face ppem g)
+
+-- what holds beside a fault, unless it is out of memory
+abbrev pub IfCaused : HintFault → Type 0 → Type 0
+IfCaused OutOfMemory fact = Unit {0}
+IfCaused _ fact = fact
+
+-- what holds beside a result, unless memory ran out
+abbrev pub UnlessMemory : {A : Type 0} → Result A HintFault → Type 0 → Type 0
+UnlessMemory (Ok x) fact = fact
+UnlessMemory (Err fault) fact = IfCaused fault fact

@@ -1,5 +1,6 @@
 pub mod Watched
 pub mod Working
+pub mod Stopping
 pub mod Stepping
 pub mod Steps
 mod Tables

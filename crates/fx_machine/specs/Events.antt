@@ -1,6 +1,6 @@
 -- What a watcher sees of programs: which one begins, and each instruction that was executed.
 -- Apple TrueType Reference Manual, "Instructing Fonts" (the execution of programs); events are own.
-use Rattle.std.specs.Prelude.{◌≡◌, ℕ, zero, suc, true, false, List, [], ◌∷◌, length, map, slice_get, Some}
+use Rattle.std.specs.Prelude.{◌≡◌, ◌⊎◌, ℕ, zero, suc, Bool, true, false, List, [], ◌∷◌, length, map, slice_get, Some}
 use Rattle.fx_machine.specs.declared.program.Program.{Program}
 use Rattle.fx_machine.specs.declared.program.FontProgram.{FontProgram}
 use Rattle.fx_machine.specs.declared.state.State.{State}
@@ -53,6 +53,18 @@ events_of texts g limit w s = Begins (named g w) s ∷ map (executed texts g) (s
 abbrev pub Watches : {W : Type 0} → (W → Event → W → Type 0) → W → List Event → W → Type 0
 Watches Sees was [] now = now ≡ was
 Watches {W} Sees was (x ∷ xs) now = (next : W) × Sees was x next × Watches Sees next xs now
+
+-- the state that an event leaves
+abbrev pub state_at : Event → State
+state_at (Begins program s) = s
+state_at (Executed program code address calls s) = s
+
+-- a watcher that sees these events in turn stops the program at one of them, and the program is left in the state after that event:
+-- it executed nothing more
+abbrev pub StopsIn : {W : Type 0} → (W → Event → W → Type 0) → (W → Bool) → W → List Event → State → W → Type 0
+StopsIn Sees stops was [] s now = ⊥
+StopsIn {W} Sees stops was (x ∷ xs) s now = (next : W) × Sees was x next
+    × (((stops next ≡ true) × (now ≡ next) × (s ≡ state_at x)) ⊎ ((stops next ≡ false) × StopsIn Sees stops next xs s now))
 
 -- what never stops a program needs no more than this
 pub never : {A : Type 0} → false ≡ true → A

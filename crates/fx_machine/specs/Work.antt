@@ -1,6 +1,6 @@
 -- How much work programs do. A caller may bound it; the measure is this project's own.
 -- Apple TrueType Reference Manual, "Instruction set", says which instructions visit more than the numbers that they take.
-use Rattle.std.specs.Prelude.{◌≡◌, ℕ, ◌+◌, ◌-◌, Bool, true, ◌||◌, ◌&&◌, ◌==◌, nat_le, if◌then◌else◌, List, [], ◌∷◌, length, Option, Some}
+use Rattle.std.specs.Prelude.{◌≡◌, ℕ, ◌+◌, ◌-◌, ◌≤◌, ◌++◌, Bool, true, ◌||◌, ◌&&◌, ◌==◌, nat_le, if◌then◌else◌, List, [], ◌∷◌, length, Option, Some}
 use Rattle.std.specs.Prelude.{None, is_none}
 use Rattle.std.proofs.Common.{refl}
 use Rattle.std.specs.Bool.{then_some}
@@ -9,7 +9,7 @@ use Rattle.fx_code.specs.Opcodes.{IF, ELSE, FDEF, IDEF}
 use Rattle.fx_machine.specs.declared.state.State.{State}
 use Rattle.fx_machine.specs.declared.work.Trail.{Trail}
 use Rattle.fx_machine.specs.declared.work.WorkBudget.{WorkBudget}
-use Rattle.fx_machine.specs.Events.{Event, Begins, Executed, Watches}
+use Rattle.fx_machine.specs.Events.{Event, Begins, Executed, Watches, StopsIn, state_at}
 
 -- what a program takes over when it begins: the storage area, the control values and the twilight zone
 abbrev pub taken_over : State → ℕ
@@ -76,7 +76,7 @@ pub spent_stays : (left : Option ℕ) (b : WorkBudget) → is_none left ≡ true
 spent_stays None b e x = refl
 spent_stays (Some left) b e x = absurd cc
 
--- ---- law
+-- ---- laws
 
 -- a budget sees events in turn
 abbrev pub Budgets : WorkBudget → List Event → WorkBudget → Type 0
@@ -86,3 +86,17 @@ Budgets = Watches (λ was x now. now ≡ budget_after x was.left was)
 abbrev pub BudgetsArePaid : Type 0
 BudgetsArePaid = (b : WorkBudget) (events : List Event) (now : WorkBudget) → Budgets b events now
     → now.left ≡ paid (work_from b.trail events) b.left
+
+-- of these events programs came to the last one in this state, and no further; what they did before it was within what a budget had
+pub record IsCutOff (b : WorkBudget) (had : ℕ) (events : List Event) (s : State) : Type 0 where
+  pub before : List Event
+  pub last : Event
+  pub after : List Event
+  pub all : events ≡ before ++ (last ∷ after)
+  pub state : s ≡ state_at last
+  pub within : work_from b.trail before ≤ had
+
+-- a budget that stops programs does so at the first event that it can't pay for
+abbrev pub BudgetsStopInTime : Type 0
+BudgetsStopInTime = (b : WorkBudget) (had : ℕ) (events : List Event) (s : State) (now : WorkBudget) → b.left ≡ Some had
+    → StopsIn (λ was x now. now ≡ budget_after x was.left was) (λ c. is_none c.left) b events s now → IsCutOff b had events s

@@ -2,7 +2,7 @@
 
 ghost use Rattle.fx_machine.specs.Machine.{AnswerIsOne, AnswerOfIsAnswer};
 ghost use Rattle.fx_machine.specs.Events.{StepsAreRuns, StepsAreCounted};
-ghost use Rattle.fx_machine.specs.Work.{BudgetsArePaid};
+ghost use Rattle.fx_machine.specs.Work.{BudgetsArePaid, BudgetsStopInTime};
 ghost use Rattle.fx_machine.specs.Shapes.{RunsKeepShapes};
 ghost use Rattle.fx_machine.specs.Table.{EveryRowIsNamed};
 ghost use Rattle.fx_machine.specs.Known.{GlyphsKeepShape, GlyphsDependOnPrepared};
@@ -58,4 +58,10 @@ pub fn every_row_is_named()
 #[tactic(auto, using(crate::proofs::Working::is_paid))]
 pub fn budgets_are_paid()
     ensures { BudgetsArePaid }
+{}
+
+/// A budget stops programs at the first event that it can't pay for.
+#[tactic(auto, using(crate::proofs::Stopping::in_time))]
+pub fn budgets_stop_in_time()
+    ensures { BudgetsStopInTime }
 {}

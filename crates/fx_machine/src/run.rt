@@ -1,6 +1,6 @@
 //! Runs, one instruction after the other.
 
-ghost use Rattle.std.specs.Prelude.{◌≡◌, ◌-◌, ◌≤◌, ◌<◌, IfOk, false, length};
+ghost use Rattle.std.specs.Prelude.{◌≡◌, ◌-◌, ◌≤◌, ◌<◌, IfOk, true, false, length};
 ghost use Rattle.fx_machine.specs.declared.state.State as the_state;
 ghost use Rattle.fx_machine.specs.Programs.{texts};
 ghost use Rattle.fx_machine.specs.Table.{row_at};
@@ -8,7 +8,7 @@ ghost use Rattle.fx_pointops.specs.Zones.{HasShapes};
 ghost use Rattle.fx_machine.specs.Shapes.{HasSizes};
 ghost use Rattle.fx_machine.specs.Machine.{answer_from, answer_of};
 ghost use Rattle.fx_machine.specs.Configs.{answered, config_of, sees};
-ghost use Rattle.fx_machine.specs.Events.{Watches, Executed, events_of};
+ghost use Rattle.fx_machine.specs.Events.{Watches, StopsIn, Executed, events_of};
 
 use crate::calls::{Calls, Cursor};
 use crate::halt::{Cause, Halt, halted};
@@ -84,8 +84,8 @@ fn at_end(
 }
 
 /// Runs a program from its first byte, for at most `limit` instructions: how many it executed, or where and why it halted. The
-/// watcher sees it begin, and each instruction after it was executed. A program that the watcher stops has no more instructions
-/// left, as at the limit.
+/// watcher sees it begin, and each instruction after it was executed. A program that the watcher stops executes nothing more, and
+/// has no more instructions left, as at the limit.
 pub fn run<W: Watching>(
     state: &mut State,
     programs: &Programs<'_>,
@@ -100,6 +100,8 @@ pub fn run<W: Watching>(
     ensures unstopped { IfOk result (λ _. W.stops watcher.new ≡ false) }
     ensures watched { Watches W.Sees watcher.old (events_of
         (texts programs.now) programs.now.number limit start state.old) watcher.new }
+    ensures early { W.stops watcher.new ≡ true → StopsIn W.Sees W.stops watcher.old (events_of
+        (texts programs.now) programs.now.number limit start state.old) state.new watcher.new }
     ensures few { IfOk result (λ steps. steps ≤ limit) }
     ensures shapes { HasShapes state.old.zones state.new.zones }
     ensures sizes { HasSizes state.old state.new }
@@ -116,7 +118,7 @@ pub fn run<W: Watching>(
     let mut left = limit;
     watcher.begin(programs.name(start), state);
     // The program's result is what comes of the cursor, the calls and the state if `left` more instructions may be executed. Once
-    // the watcher sees the instructions that are left, it has seen all.
+    // the watcher sees the instructions that are left, it has seen all. If it stops the program now, it does so in this state.
     'steps: loop {
         if watcher.stops() {
             return Err(halted(

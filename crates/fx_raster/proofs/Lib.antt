@@ -8,3 +8,4 @@ pub mod Inside
 pub mod Shaping
 pub mod Existing
 pub mod Moved
+pub mod Gapping

@@ -2,7 +2,8 @@
 //!
 //! A `Shape` is an outline within the limits, with a rule: a pixel is set if its centre lies on the outline or has a winding number
 //! other than 0 about it; with drop-out control the pixels that close a gap are set as well. `Shape::of` makes a shape of an
-//! outline, or says why there is none; `lies_in` says that all its pixels lie in a box, and `bitmap` makes its bits.
+//! outline, or says why there is none; `lies_in` says that all its pixels lie in a box, `work_within` how much work it is to draw
+//! it, and `bitmap` makes its bits.
 //! `specs/Rules` says which pixels are set. Nothing above this crate needs to know how they are found.
 #![tactic(auto)]
 
@@ -14,6 +15,7 @@ mod rule;
 mod scratch;
 mod shape;
 mod within;
+mod work;
 
 pub use fx_contour::ContourFault as RasterFault;
 pub use fx_dropout::Closing;

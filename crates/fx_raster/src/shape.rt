@@ -4,6 +4,7 @@ ghost use Rattle.fx_winding.specs.Bitmaps.{bit_of};
 ghost use Rattle.fx_contour.specs.Contours.{spans_of};
 ghost use Rattle.fx_raster.specs.Frames.{HasFrame};
 ghost use Rattle.fx_raster.specs.Rules.{IsInRegion, IsPixelSet, shape_of};
+ghost use Rattle.fx_raster.specs.Work.{drawing_work, within};
 
 use crate::RasterFault;
 use crate::bits::bitmap_of;
@@ -12,6 +13,7 @@ use crate::region::Region;
 use crate::rule::Rule;
 use crate::scratch::RasterScratch;
 use crate::within::lies_in;
+use crate::work::work_within;
 use fx_contour::pieces_in_reach;
 use fx_outline::Outline;
 use fx_winding::{Bitmap, Frame, Pieces, Scan};
@@ -86,6 +88,33 @@ impl Shape {
         )?;
         scratch.pieces = pieces;
         Ok(bitmap)
+    }
+
+    /// The work of drawing the shape, in pieces, in the rows and columns that they cross, and in pieces asked for gaps; none if it
+    /// is more than `most`. The count stops there. Where the nearer pixel closes gaps, a scan finds them, unless the pieces alone
+    /// are too much.
+    pub fn work_within<S: Scan>(
+        &self,
+        alloc: Global,
+        scan: &S,
+        scratch: &mut RasterScratch,
+        most: usize,
+    ) -> Result<Option<usize>, AllocError>
+        ensures { IfOk result (λ w. w ≡ within most (drawing_work self.now.rule self.now.spans)) }
+    {
+        let buffer = mem::replace(&mut scratch.pieces, Pieces::new(alloc));
+        let pieces = pieces_in_reach(buffer, &self.outline)?;
+        let work = work_within(
+            alloc,
+            scan,
+            &pieces,
+            self.rule,
+            self.frame,
+            &mut scratch.scan,
+            most,
+        )?;
+        scratch.pieces = pieces;
+        Ok(work)
     }
 
     /// The outline of a shape, whose buffers can hold another outline.

@@ -42,6 +42,7 @@ advice_of refusal.NoFace = codes "give a number below the number of faces; a fil
 advice_of (refusal.Halted halt) = after_halt halt.cause
 advice_of (refusal.TooFar _) = codes "use a smaller size"
 advice_of (refusal.GlyphTooLarge _) = codes "use a smaller size"
+advice_of refusal.TooMuchWork = codes "if you trust the font, leave --careful out"
 advice_of refusal.BadSize = codes "give a size from 1 to 1024"
 advice_of refusal.BadChars = codes "give hexadecimal numbers and ranges joined by commas, such as 20-7e,a0"
 advice_of refusal.BadName = codes "give a name of 1 to 255 printable ASCII characters, no space first or last"

@@ -31,6 +31,7 @@ entry_of refusal.NoFace = (25, codes "NoFace", Nowhere)
 entry_of (refusal.Halted halt) = (causes.number_of halt.cause, causes.name_of halt.cause, Halt halt)
 entry_of (refusal.TooFar g) = (51, codes "TooFar", Glyph g)
 entry_of (refusal.GlyphTooLarge g) = (52, codes "GlyphTooLarge", Glyph g)
+entry_of refusal.TooMuchWork = (53, codes "TooMuchWork", Nowhere)
 entry_of refusal.BadSize = (60, codes "BadSize", Nowhere)
 entry_of refusal.BadChars = (61, codes "BadChars", Nowhere)
 entry_of refusal.BadName = (62, codes "BadName", Nowhere)
@@ -59,8 +60,8 @@ each_refusal =
     refusal.BadMaxp ∷ refusal.NoCharMap ∷ refusal.BadCharMap ∷ refusal.BadLoca 0 ∷ refusal.GlyphShort 0 ∷
     refusal.BadContours 0 ∷ refusal.ComponentDepth 0 ∷ refusal.TooManyComponents 0 ∷ refusal.TooManyPoints 0 ∷
     refusal.BadPointMatch 0 ∷ refusal.BadGlyphNumber 0 ∷ refusal.NoFace ∷ refusal.TooFar 0 ∷ refusal.GlyphTooLarge 0 ∷
-    refusal.BadSize ∷ refusal.BadChars ∷ refusal.BadName ∷ refusal.BadProperty 1 ∷ refusal.WriteFailed 0 ∷
-    refusal.ReadFailed ∷ refusal.BadHex ∷ refusal.InputTooLarge ∷ refusal.OutOfMemory ∷ []
+    refusal.TooMuchWork ∷ refusal.BadSize ∷ refusal.BadChars ∷ refusal.BadName ∷ refusal.BadProperty 1 ∷
+    refusal.WriteFailed 0 ∷ refusal.ReadFailed ∷ refusal.BadHex ∷ refusal.InputTooLarge ∷ refusal.OutOfMemory ∷ []
 
 -- each cause of a halt
 abbrev pub each_cause : List Cause

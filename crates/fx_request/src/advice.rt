@@ -32,6 +32,7 @@ impl Refusal {
             }
             Refusal::Halted(halt) => after_halt(halt.cause),
             Refusal::TooFar(_) | Refusal::GlyphTooLarge(_) => "use a smaller size",
+            Refusal::TooMuchWork => "if you trust the font, leave --careful out",
             Refusal::BadSize => "give a size from 1 to 1024",
             Refusal::BadChars => {
                 "give hexadecimal numbers and ranges joined by commas, such as 20-7e,a0"

@@ -48,6 +48,8 @@ pub enum Refusal {
     TooFar(u16),
     /// A glyph has more than 8,192 pixels a side.
     GlyphTooLarge(u16),
+    /// A character takes more work than a careful strike allows, or the font's `fpgm` and `prep` do.
+    TooMuchWork,
     /// The size is 0 or above 1,024 pixels.
     BadSize,
     /// The request has more than `MAX_CHARACTERS` characters, or one above `MAX_CODE`.
@@ -96,6 +98,7 @@ impl Refusal {
             Refusal::Halted(halt) => (halt.cause.number(), halt.cause.name(), Location::Halt(halt)),
             Refusal::TooFar(g) => (51, "TooFar", Location::Glyph(g)),
             Refusal::GlyphTooLarge(g) => (52, "GlyphTooLarge", Location::Glyph(g)),
+            Refusal::TooMuchWork => (53, "TooMuchWork", Location::Nowhere),
             Refusal::BadSize => (60, "BadSize", Location::Nowhere),
             Refusal::BadChars => (61, "BadChars", Location::Nowhere),
             Refusal::BadName => (62, "BadName", Location::Nowhere),
@@ -131,7 +134,7 @@ impl Refusal {
 }
 
 /// One of each refusal but the halts.
-pub const EACH_REFUSAL: [Refusal; 27] = [
+pub const EACH_REFUSAL: [Refusal; 28] = [
     Refusal::NotTrueType,
     Refusal::TableMissing(*b"glyf"),
     Refusal::TableShort(*b"glyf"),
@@ -150,6 +153,7 @@ pub const EACH_REFUSAL: [Refusal; 27] = [
     Refusal::NoFace,
     Refusal::TooFar(0),
     Refusal::GlyphTooLarge(0),
+    Refusal::TooMuchWork,
     Refusal::BadSize,
     Refusal::BadChars,
     Refusal::BadName,

@@ -17,13 +17,16 @@ pub enum Dropout {
     Font,
 }
 
-/// How outlines become pixels: whether the font's programs run, and whether drop-out control keeps thin strokes whole.
+/// How outlines become pixels: whether the font's programs run, whether drop-out control keeps thin strokes whole, and whether the
+/// work that a font can ask for is bounded.
 #[derive(Clone, Copy, Debug, PartialEq)]
 pub struct Mode {
     /// Whether the font's programs are run.
     pub hinting: bool,
     /// Whether drop-out control is on, and which pixels it sets.
     pub dropout: Dropout,
+    /// Whether a character that takes too much work is refused, and a font whose `fpgm` and `prep` do.
+    pub careful: bool,
 }
 
 /// How one glyph is chosen.
@@ -44,8 +47,8 @@ pub enum TraceSubject {
     Glyph(Choice),
 }
 
-/// What becomes of a character that is refused: one whose outline can't be made, lies too far out or is too large, or whose program
-/// halts.
+/// What becomes of a character that is refused: one whose outline can't be made, lies too far out or is too large, whose program
+/// halts, or which takes too much work.
 #[derive(Clone, Copy, Debug, PartialEq, Eq)]
 pub enum OnRefused {
     /// The first such character refuses the strike.

@@ -2,6 +2,13 @@
 //!
 //! The pixels of a band are numbered row by row, from the lowest. After a row's last pixel the numbers up to the next multiple of
 //! 32 are left out, so that each row begins a word of bits, as in a bitmap.
+//!
+//! A piece with its cut at column 3 adds v to the columns before it, and that changes two differences:
+//!
+//!     column        0   1   2   3   4   5
+//!     difference   +v   0   0  -v   0   0
+//!     count         v   v   v   0   0   0      the sum of the differences up to the column
+//!     touched       *           *
 
 ghost use Rattle.std.specs.Prelude.{◌≡◌, ◌+◌, ◌*◌, ◌/◌, ◌%◌, ◌^◌, ◌<◌, ◌≤◌, length, pos, IfOk};
 ghost use Rattle.fx_winding.specs.Bitmaps.{words_for};

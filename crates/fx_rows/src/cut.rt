@@ -1,5 +1,15 @@
 //! Rows between the ends of a slanted chord. There the crossing and the region of a piece together are one value before a column
 //! and 0 from it on, but for the columns on the piece, which are set anyway.
+//!
+//! How a row comes to a piece (dots are the centres of its pixels):
+//!
+//!             c                 __
+//!            /                 /  \                     c
+//!       . . / . .         . . / . .\ . .           . . / . .         . . a-.-.-c . .
+//!          /                 /      \                 a
+//!         a                 a        c
+//!     between the ends     beyond both ends         at an end             level
+//!     one cut (this file)  the run of the region    the end's column      the columns on it
 
 ghost use Rattle.std.specs.Prelude.{◌≡◌, ◌+◌, ◌≤◌, pos, ◌+ℤ◌, ◌*ℤ◌, ◌≤ℤ◌};
 ghost use Rattle.fx_winding.specs.Winding.{place_of};

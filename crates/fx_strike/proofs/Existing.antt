@@ -70,4 +70,5 @@ glyphs_of_fates setting refused (c ∷ cs) fs h =
 pub strike_exists : StrikeExists
 strike_exists file ppem title chars mode refused plan h =
     let p = parts_of file ppem title chars mode refused plan h in
-    rw p.sketches (glyphs_of_fates p.setting refused (filter (λ c. not (is_missing p.setting c)) (rising chars)) p.fates p.planned)
+    let codes = filter (λ c. not (is_missing p.setting c)) (rising chars) in
+    rw p.sketches (glyphs_of_fates (record p.setting { over = p.over }) refused codes p.fates p.planned)

@@ -25,7 +25,7 @@ unfolding glyph_fate_of
 fate_by_cause setting refused code glyph cause h = rw h refl
 
 -- a cause that was named
-named : {Y : Type 0} (d : Refusal) (due : Result Y Refusal) → (d ≡ OutOfMemory → ⊥) → Fails d due → due ≡ Err d
+pub named : {Y : Type 0} (d : Refusal) (due : Result Y Refusal) → (d ≡ OutOfMemory → ⊥) → Fails d due → due ≡ Err d
 named OutOfMemory due n f = absurd (n refl)
 named (WriteFailed k) due n f = absurd f
 named ReadFailed due n f = absurd f

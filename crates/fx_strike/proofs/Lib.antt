@@ -15,3 +15,5 @@ pub mod Existing
 pub mod Keeping
 pub mod Enclosed
 pub mod BlockSettings
+pub mod Weighing
+pub mod CarefulMachines

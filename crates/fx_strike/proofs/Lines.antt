@@ -18,7 +18,7 @@ use Rattle.fx_bdf.specs.Text.{header_text, glyph_text, end_text}
 use Rattle.fx_bdf.specs.X11.{all_properties}
 use Rattle.fx_bdf.specs.declared.summary.Summary.{Summary}
 use Rattle.fx_request.specs.declared.refusal.Refusal.TheVariants.{WriteFailed, ReadFailed, BadHex, InputTooLarge, OutOfMemory}
-use Rattle.fx_strike.specs.Strike.{Sketch, Setting, Plan, Fate, IsGlyphOf, AreGlyphsOf, sketches_in, plan_with}
+use Rattle.fx_strike.specs.Strike.{Sketch, Setting, Plan, Fate, IsGlyphOf, AreGlyphsOf, sketches_in, plan_within}
 use Rattle.fx_strike.specs.Strike.{properties_of, strike_text, rising, Refusal, Fails, Title, OnRefused}
 use Rattle.fx_strike.specs.Headline.{Surveyed, Leaves, surveyed_header, Header, Survey, Change}
 use Rattle.fx_strike.specs.inner.Writing.{AddsMoreBy, AddsPart, AreLinesIn, AreLinesOf, Stops, Writes}
@@ -273,7 +273,7 @@ properties_by title ppem survey = all_properties title.x11 title.name ppem surve
 
 -- the text of a strike that was surveyed
 survey_text : (setting : Setting) (title : Title) (chars : List ℕ) (refused : OnRefused) (survey : Survey)
-    (s : Surveyed (plan_with setting title chars refused) survey)
+    (s : Surveyed (plan_within setting title chars refused) survey)
     → header_text title.name (properties_by title setting.ppem survey) (surveyed_header setting.ppem survey)
     ++ (flat_map glyph_text s.glyphs ++ end_text) ≡ strike_text s.plan s.glyphs
 unfolding strike_text
@@ -304,10 +304,10 @@ pub strike_leaves : {setting : Setting} (title : Title) (chars : List ℕ) {refu
     {change : Change} {survey : Survey} {header : Header} {all : List PropertyView} (r : Result (Unit {0}) Refusal)
     → mapped ≡ mapped_of setting.map (rising chars) → header ≡ surveyed_header setting.ppem survey
     → all ≡ properties_by title setting.ppem survey
-    → Surveyed (plan_with setting title chars refused) survey
+    → Surveyed (plan_within setting title chars refused) survey
     → ((lines : List ℕ) → AreLinesOf setting refused mapped lines
     → Writes change (header_text title.name all header ++ (lines ++ end_text)) r)
-    → Leaves {Y = Unit {0}} (Ok tt) (plan_with setting title chars refused) change (map_ok (λ _. survey.report) r)
+    → Leaves {Y = Unit {0}} (Ok tt) (plan_within setting title chars refused) change (map_ok (λ _. survey.report) r)
 strike_leaves {setting} title chars {refused} {mapped} {change} {survey} {header} {all} r c q a s w =
     let p = planned setting title chars refused s.plan s.is in
     let fates = ap (fates_in setting refused) c ∙ fates_are setting refused (rising chars) ∙ p.planned in

@@ -14,7 +14,7 @@ use Rattle.fx_fixed.specs.Sizes.{IsPpem, max_ppem}
 use Rattle.fx_bdf.specs.Glyphs.{Box, bounds_of}
 use Rattle.fx_request.specs.declared.refusal.Refusal.TheVariants.{WriteFailed, ReadFailed, BadHex, InputTooLarge, OutOfMemory}
 use Rattle.fx_fixed.specs.Numbers.{counted}
-use Rattle.fx_strike.specs.Strike.{Setting, Plan, sketches_in, prelude_by, pixels, fates_of, plan_from, plan_with, Refusal, Fails}
+use Rattle.fx_strike.specs.Strike.{Setting, Plan, sketches_in, prelude_by, pixels, fates_of, plan_from, plan_within, Refusal, Fails}
 use Rattle.fx_strike.specs.Strike.{rising, Title, OnRefused}
 use Rattle.fx_strike.specs.Headline.{IsCause, Surveyed, Leaves, Makes, Header, Report, Change}
 use Rattle.fx_strike.specs.inner.Mapping.{AreCharactersOf, fates_in, mapped_of, Characters, Mapped}
@@ -34,8 +34,8 @@ same_fates setting chars refused mapped c =
 
 pub unseen : (setting : Setting) (title : Title) (chars : List ℕ) (mapped : List Mapped) (refused : OnRefused) (d : Refusal)
     → mapped ≡ mapped_of setting.map (rising chars) → Fails d (fates_in setting refused mapped)
-    → Fails d (plan_with setting title chars refused)
-unfolding plan_with
+    → Fails d (plan_within setting title chars refused)
+unfolding plan_within
 unseen setting title chars mapped refused d c f =
     fails_on d (fates_in setting refused mapped) _ (λ x g. rw (same_fates setting chars refused mapped c ∙ g)) f
 
@@ -45,8 +45,8 @@ counted_on before after total h = omega arith
 
 pub surveyed : (setting : Setting) (title : Title) (chars : List ℕ) (refused : OnRefused) (characters : Characters) (seen : Seen)
     → AreCharactersOf setting.map (rising chars) characters → Holds setting refused characters.mapped.items seen
-    → Surveyed (plan_with setting title chars refused) (survey_from setting seen characters.missing)
-unfolding plan_with
+    → Surveyed (plan_within setting title chars refused) (survey_from setting seen characters.missing)
+unfolding plan_within
 surveyed setting title chars refused characters seen c g =
     let planned = same_fates setting chars refused characters.mapped.items c.mapped ∙ g.planned in
     let heading : Box → ℕ → Header = λ b n. record {

@@ -1,24 +1,39 @@
 -- The characters found among rising code points are those of the map, and the others are counted: `others_counted`.
 -- Serves `run_below`, `look_up`, `characters` and `first_pass`.
 use Rattle.std.proofs.Common.{◌≡◌, inl, inr, refl, sym, ap, ◌∙◌, subst, arith, ℕ, suc, zero, ◌+◌, ◌<◌, ◌≤◌, Bool, true, false, not}
-use Rattle.std.proofs.Common.{List, [], ◌∷◌, ◌++◌, map, length, take, get_or, Result, cond}
-use Rattle.std.specs.Prelude.{nat_lt, ◌==◌, filter}
+use Rattle.std.proofs.Common.{List, [], ◌∷◌, ◌++◌, map, length, take, get_or, Result, Ok, cond}
+use Rattle.std.specs.Prelude.{nat_lt, ◌==◌, ◌||◌, filter}
 use Rattle.std.specs.List.{list_any, count_by}
 use Rattle.std.specs.List.Sorted.{IsStrictlyIncreasing}
 use Rattle.std.proofs.Math.Nat.{eq-or-lt_of_le}
 use Rattle.std.proofs.lemmas.Bool.{or_parts}
+use Rattle.std.proofs.lemmas.Bool.Decides.{nat_tests}
 use Rattle.std.proofs.lemmas.List.{map-append, append-nil, length-map}
 use Rattle.std.proofs.lemmas.List.Elements.{filter_more}
 use Rattle.std.proofs.lemmas.List.Filters.{length-filter_both}
 use Rattle.std.proofs.lemmas.List.Sums.{length-filter}
-use Rattle.fx_fixed.specs.Chain.{map_chain}
+use Rattle.fx_fixed.specs.Chain.{map_chain, refuse}
 use Rattle.fx_cmap.specs.Lookup.{glyph_for}
 use Rattle.fx_cmap.specs.declared.mapping.Mapping.{Mapping}
+use Rattle.fx_request.specs.declared.refusal.Refusal.TheVariants.{BadChars}
+use Rattle.fx_request.specs.Limits.{max_characters}
 use Rattle.fx_request.proofs.Rising.{length_rising, small_rising}
-use Rattle.fx_strike.specs.Strike.{Setting, fates_of, is_missing, rising, max_code, Refusal, OnRefused}
+use Rattle.fx_strike.specs.Strike.{Setting, checked_chars, fates_of, is_missing, rising, max_code, Refusal, OnRefused}
 use Rattle.fx_strike.specs.inner.Mapping.{fates_in, lacks, mapped_at, mapped_fate_of, mapped_of, Mapped}
 use Rattle.fx_strike.specs.inner.Surveying.{AreChars}
 use Rattle.fx_strike.specs.inner.Writing.{AreMapped}
+
+-- ---- characters within their limits
+
+pub chars_pass : (chars : List ℕ) → checked_chars chars ≡ Ok tt → AreChars chars
+unfolding checked_chars
+chars_pass chars h = by_tests (nat_lt max_characters (length chars)) (list_any (nat_lt max_code) chars) refl refl h
+  where
+    by_tests : (a b : Bool) → nat_lt max_characters (length chars) ≡ a → list_any (nat_lt max_code) chars ≡ b
+        → ◌≡◌ {A = Result (Unit {0}) Refusal} (refuse (a || b) BadChars) (Ok tt) → AreChars chars
+    by_tests false false e f h = record { few = grind (arith, nat_tests); small = f }
+    by_tests false true e f h = absurd (cc)
+    by_tests true b e f h = absurd (cc)
 
 -- ---- rising code points
 

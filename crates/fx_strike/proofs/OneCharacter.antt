@@ -11,9 +11,11 @@ use Rattle.fx_cmap.specs.declared.mapping.Mapping.{Mapping}
 use Rattle.fx_cmap.specs.Lookup.{glyph_for}
 use Rattle.fx_request.specs.declared.request.OnRefused.TheVariants.{Stop}
 use Rattle.fx_request.specs.declared.refusal.Refusal.TheVariants.{BadSize}
-use Rattle.fx_strike.specs.Strike.{Sketch, Setting, Plan, Opening, sketch_of, is_missing, checked_chars, checked_text}
+use Rattle.fx_strike.specs.Strike.{Sketch, Setting, Plan, Opening, is_missing, checked_chars, checked_text}
 use Rattle.fx_strike.specs.Strike.{checked_title, font_with_map, opened_after, opened_one_of, setting_in, plan_from, plan_with}
 use Rattle.fx_strike.specs.Strike.{plan_in, plan_of, Fate, sketches_in, fate_by, machineless, glyph_sketch_of, glyph_fate_of}
+use Rattle.fx_strike.specs.Strike.{bounded, sketch_alone, plan_within, mapped_of, Mapped}
+use Rattle.fx_strike.specs.Characters.{lacks, mapped_at}
 use Rattle.fx_strike.specs.Strike.{fate_of, one_with, one_in, one_of, Mode, Refusal, rising, Opened, Title}
 use Rattle.fx_strike.specs.Laws.{OneIsOfStrike, only_sketch}
 
@@ -27,12 +29,35 @@ one_step : (first second : Result Sketch Refusal) (code : ℕ) (f : ℕ → Resu
 one_step first second code f last true is same = ap (λ (ss : List Sketch). Ok (slice_get ss 0)) (sym (same []))
 one_step first second code f last false is same = grind (arith, is, same)
 
+-- whatever takes too much work
+within_is : (setting : Setting) (title : Title) (code : ℕ)
+    → (if is_missing setting code then Ok None else map_ok Some (glyph_sketch_of setting code (glyph_for setting.map code)))
+    ≡ map_ok only_sketch (plan_within setting title (code ∷ []) Stop)
+unfolding rising plan_within glyph_fate_of
+within_is setting title code =
+    let glyph = glyph_for setting.map code in
+    one_step (glyph_sketch_of setting code glyph) (glyph_sketch_of (machineless setting) code glyph) code
+    (fate_of setting Stop) (plan_from setting title (code ∷ [])) (is_missing setting code) refl (λ fs. refl)
+
+-- the character of a strike of it alone
+only_mapped : (map : Mapping) (code : ℕ) → lacks map code ≡ false → mapped_at map code ∷ [] ≡ mapped_of map (rising (code ∷ []))
+unfolding rising
+only_mapped map code e = rw e refl
+
+none_or : (b : Bool) (x y : Result Sketch Refusal) → (b ≡ false → x ≡ y)
+    → (if b then Ok None else map_ok Some x) ≡ (if b then Ok None else map_ok Some y)
+none_or true x y h = refl
+none_or false x y h = ap (map_ok Some) (h refl)
+
 with_is : (setting : Setting) (title : Title) (code : ℕ)
     → one_with setting code ≡ map_ok only_sketch (plan_with setting title (code ∷ []) Stop)
-unfolding rising one_with plan_with glyph_fate_of
+unfolding one_with sketch_alone plan_with bounded
 with_is setting title code =
-    one_step (sketch_of setting code) (glyph_sketch_of (machineless setting) code (glyph_for setting.map code)) code
-    (fate_of setting Stop) (plan_from setting title (code ∷ [])) (is_missing setting code) refl (λ fs. refl)
+    let glyph = glyph_for setting.map code in
+    let sketch : List Mapped → Result Sketch Refusal = λ ms. glyph_sketch_of (bounded setting Stop ms) code glyph in
+    none_or (is_missing setting code) (sketch (mapped_at setting.map code ∷ []))
+    (sketch (mapped_of setting.map (rising (code ∷ [])))) (λ e. ap sketch (only_mapped setting.map code e))
+    ∙ within_is (bounded setting Stop (mapped_of setting.map (rising (code ∷ [])))) title code
 
 in_is : (opened : Opened) (title : Title) (code : ℕ) (mode : Mode)
     → one_in opened code mode ≡ map_ok only_sketch (plan_in opened title (code ∷ []) mode Stop)

@@ -2,10 +2,11 @@
 -- Serves the laws `part` and `text`, and the law that a strike exists.
 use Rattle.std.proofs.Common.{◌≡◌, refl, sym, ap, ◌∙◌, subst, arith, ℕ, zero, suc, ◌<◌, ℤ, Bool, true, false, not, List, []}
 use Rattle.std.proofs.Common.{◌∷◌, ◌++◌, length, get_or, Result, Ok, Err}
-use Rattle.std.specs.Prelude.{IsTrue, Contains, filter}
-use Rattle.fx_fixed.specs.Chain.{◌>>=◌, wanted, map_fault, map_chain}
+use Rattle.std.specs.Prelude.{IsTrue, Contains, filter, ◌==◌}
+use Rattle.fx_fixed.specs.Chain.{◌>>=◌, refuse, wanted, map_fault, map_chain}
 use Rattle.fx_fixed.specs.Sizes.{ppem_of}
 use Rattle.fx_fixed.proofs.Chain.{bind_ok, map_fault_ok, same_Ok}
+use Rattle.fx_cmap.specs.Lookup.{glyph_for}
 use Rattle.fx_sfnt.specs.Glyphs.{metrics_of}
 use Rattle.fx_sfnt.specs.declared.records.Metrics.{Metrics}
 use Rattle.fx_hint.specs.Outlines.{GlyphOutlineView}
@@ -13,11 +14,12 @@ use Rattle.fx_raster.specs.Rules.{ShapeView, shape_of}
 use Rattle.fx_bdf.specs.Glyphs.{Glyph, TrimmedIsOne, glyph_bit}
 use Rattle.fx_request.specs.declared.request.OnRefused.TheVariants.{Stop, LeaveOut, Unhinted as DrawUnhinted}
 use Rattle.fx_strike.specs.declared.fate.Fate.TheVariants.{Drawn, Unhinted, LeftOut}
-use Rattle.fx_request.specs.declared.refusal.Refusal.TheVariants.{BadSize, Halted}
+use Rattle.fx_request.specs.declared.refusal.Refusal.TheVariants.{BadSize, Halted, TooMuchWork}
 use Rattle.fx_request.specs.Faults.{of_font}
 use Rattle.fx_strike.specs.Faults.{of_hint, of_raster}
-use Rattle.std.specs.List.{flat_map}
+use Rattle.std.specs.List.{flat_map, list_any}
 use Rattle.fx_strike.specs.Strike.{Sketch, Setting, Plan, AreGlyphsOf, outline_in, rule_in, sketch_from, Fate, sketches_in}
+use Rattle.fx_strike.specs.Strike.{bounded, is_over, mapped_of, over_among, refused_by, plan_within}
 use Rattle.fx_strike.specs.Strike.{fate_by, machineless, glyph_fate_of, fate_of, fates_of, glyph_sketch_of, is_missing}
 use Rattle.fx_strike.specs.Strike.{checked_text, opened_after, opened_of, opened_at, setting_in, setting_of, plan_from, plan_with}
 use Rattle.fx_strike.specs.Strike.{plan_in, plan_of, strike_text, FontFileView, Mode, OnRefused, Refusal, rising, Title}
@@ -84,8 +86,11 @@ unfolding glyph_sketch_of
 sketch_made setting code glyph s h =
     let measured : GlyphOutlineView → ShapeView → Result Sketch Refusal =
     λ d x. map_fault of_font (metrics_of setting.font glyph) >>= λ m. Ok (sketch_from setting code d x m) in
-    let a = bind_ok (map_fault of_hint (outline_in setting glyph))
-    (λ d. map_fault (of_raster glyph) (shape_of (rule_in setting d.wish) d.ends d.points) >>= measured d) s h in
+    let shaped : GlyphOutlineView → Result Sketch Refusal =
+    λ d. map_fault (of_raster glyph) (shape_of (rule_in setting d.wish) d.ends d.points) >>= measured d in
+    let r = bind_ok (refuse (is_over setting code) TooMuchWork)
+    (λ _. map_fault of_hint (outline_in setting glyph) >>= shaped) s h in
+    let a = bind_ok (map_fault of_hint (outline_in setting glyph)) shaped s r.2 in
     let b = bind_ok (map_fault (of_raster glyph) (shape_of (rule_in setting a.0.wish) a.0.ends a.0.points))
     (measured a.0) s a.2 in
     let c = bind_ok (map_fault of_font (metrics_of setting.font glyph)) (λ m. Ok (sketch_from setting code a.0 b.0 m)) s b.2 in
@@ -199,13 +204,14 @@ unchecked (Ok n) (Ok u) opens o h = h
 unchecked (Ok n) (Err e) opens o h = absurd (cc)
 unchecked (Err e) checks opens o h = absurd (cc)
 
--- the setting of a plan
+-- the setting of a plan, and which code points take too much work
 pub record Parts (file : FontFileView) (ppem : ℕ) (chars : List ℕ) (mode : Mode) (refused : OnRefused)
     (ss : List Sketch) : Type 0 where
   pub setting : Setting
   pub is : setting_of file ppem mode ≡ Ok setting
+  pub over : List ℕ
   pub fates : List Fate
-  pub planned : fates_of setting refused (rising chars) ≡ Ok fates
+  pub planned : fates_of (record setting { over = over }) refused (rising chars) ≡ Ok fates
   pub sketches : ss ≡ flat_map sketches_in fates
 
 -- a plan has the title and the size that it is of, and what becomes of its code points
@@ -219,8 +225,8 @@ pub record Planned (setting : Setting) (title : Title) (chars : List ℕ) (refus
   pub ppem_is : plan.ppem ≡ setting.ppem
 
 pub planned : (setting : Setting) (title : Title) (chars : List ℕ) (refused : OnRefused) (plan : Plan)
-    → plan_with setting title chars refused ≡ Ok plan → Planned setting title chars refused plan
-unfolding plan_with
+    → plan_within setting title chars refused ≡ Ok plan → Planned setting title chars refused plan
+unfolding plan_within
 planned setting title chars refused plan h =
     let d = bind_ok (fates_of setting refused (rising chars)) (λ fs. Ok (plan_from setting title chars fs)) plan h in
     let e : plan_from setting title chars d.0 ≡ plan = cc (d.2) in
@@ -237,13 +243,14 @@ planned setting title chars refused plan h =
 
 pub parts_of : (file : FontFileView) (ppem : ℕ) (title : Title) (chars : List ℕ) (mode : Mode) (refused : OnRefused) (plan : Plan)
     → plan_of file ppem title chars mode refused ≡ Ok plan → Parts file ppem chars mode refused plan.sketches
-unfolding opened_after setting_of plan_in plan_of
+unfolding opened_after setting_of plan_in plan_of plan_with bounded
 parts_of file ppem title chars mode refused plan h =
     let o = bind_ok (opened_of file ppem title chars) (λ o. plan_in o title chars mode refused) plan h in
     let s = bind_ok (setting_in o.0 mode) (λ s. plan_with s title chars refused) plan o.2 in
     let opened : opened_at file ppem ≡ Ok o.0 = unchecked (wanted (ppem_of ppem) BadSize) (checked_text title chars) _ o.0 o.1 in
-    let p = planned s.0 title chars refused plan s.2 in
-    record { setting = s.0; is = rw opened s.1; fates = p.fates; planned = p.planned; sketches = p.sketches }
+    let over = over_among s.0 refused (mapped_of s.0.map (rising chars)) in
+    let p = planned (record s.0 { over = over }) title chars refused plan s.2 in
+    record { setting = s.0; is = rw opened s.1; over = over; fates = p.fates; planned = p.planned; sketches = p.sketches }
 
 -- a sketch of a plan is that of what becomes of its code point
 abbrev IsDue : Setting → OnRefused → Sketch → Type 0
@@ -258,6 +265,43 @@ sketch_there setting refused chars fates s p h =
     let code : s.code ≡ x.0 = is_of setting refused x.0 _ x.1 x.2 s here in
     (x.1, ap (fate_of setting refused) code ∙ x.2, here)
 
+-- which code points take too much work has no part in the sketch of one that does not
+sketch_any : (setting : Setting) (over : List ℕ) (code glyph : ℕ) → list_any (λ c. c == code) over ≡ false
+    → glyph_sketch_of (record setting { over = [] }) code glyph ≡ glyph_sketch_of (record setting { over = over }) code glyph
+unfolding glyph_sketch_of
+sketch_any setting over code glyph e = rw e refl
+
+fate_any : (setting : Setting) (refused : OnRefused) (over : List ℕ) (code : ℕ) → list_any (λ c. c == code) over ≡ false
+    → fate_of (record setting { over = [] }) refused code ≡ fate_of (record setting { over = over }) refused code
+unfolding glyph_fate_of
+fate_any setting refused over code e =
+    let glyph = glyph_for setting.map code in
+    ap (λ (r : Result Sketch Refusal). fate_by refused code r (glyph_sketch_of (record setting { over = [] }) code glyph))
+    (sketch_any (machineless setting) over code glyph e)
+    ∙ ap (fate_by refused code (glyph_sketch_of (machineless (record setting { over = over })) code glyph))
+    (sketch_any setting over code glyph e)
+
+-- one that does has none
+not_drawn : (refused : OnRefused) (code : ℕ) (second : Result Sketch Refusal) (x : Fate) (s : Sketch)
+    → refused_by refused code second TooMuchWork ≡ Ok x → sketches_in x ≡ s ∷ [] → ⊥
+not_drawn Stop code second x s h e = absurd (cc (h))
+not_drawn LeaveOut code second x s h e = grind (arith, h, e)
+not_drawn DrawUnhinted code second x s h e = grind (arith, h, e)
+
+over_undrawn : (setting : Setting) (refused : OnRefused) (code : ℕ) (x : Fate) (s : Sketch) → is_over setting code ≡ true
+    → fate_of setting refused code ≡ Ok x → sketches_in x ≡ s ∷ [] → ⊥
+unfolding glyph_fate_of glyph_sketch_of
+over_undrawn setting refused code x s e h = not_drawn refused code _ x s (rw e at h)
+
+-- so a sketch that is due is so whatever takes too much work
+due_any : (setting : Setting) (over : List ℕ) (refused : OnRefused) (s : Sketch) → IsDue (record setting { over = over }) refused s
+    → IsDue (record setting { over = [] }) refused s
+due_any setting over refused s d = by (list_any (λ c. c == s.code) over) refl
+  where
+    by : (b : Bool) → list_any (λ c. c == s.code) over ≡ b → IsDue (record setting { over = [] }) refused s
+    by true e = absurd (over_undrawn (record setting { over = over }) refused s.code d.0 s e d.1 d.2)
+    by false e = (d.0, fate_any setting refused over s.code e ∙ d.1, d.2)
+
 -- two sketches that are due for one code point are one
 due_is_one : (setting : Setting) (refused : OnRefused) (s t : Sketch) → IsDue setting refused s → IsDue setting refused t
     → s.code ≡ t.code → s ≡ t
@@ -270,7 +314,8 @@ part_is_one file ppem mode refused title title2 chars chars2 plan plan2 h g s t 
     let same : p.setting ≡ q.setting = same_Ok p.setting q.setting p.is q.is in
     let P : List Sketch → Type 0 = λ ss. Contains ss s in
     let Q : List Sketch → Type 0 = λ ss. Contains ss t in
-    let R : Setting → Type 0 = λ x. IsDue x refused s in
-    due_is_one q.setting refused s t
-    (subst R same (sketch_there p.setting refused chars p.fates s p.planned (subst P p.sketches i)))
-    (sketch_there q.setting refused chars2 q.fates t q.planned (subst Q q.sketches j)) e
+    let R : Setting → Type 0 = λ x. IsDue (record x { over = [] }) refused s in
+    let one = sketch_there (record p.setting { over = p.over }) refused chars p.fates s p.planned (subst P p.sketches i) in
+    let two = sketch_there (record q.setting { over = q.over }) refused chars2 q.fates t q.planned (subst Q q.sketches j) in
+    due_is_one (record q.setting { over = [] }) refused s t (subst R same (due_any p.setting p.over refused s one))
+    (due_any q.setting q.over refused t two) e

@@ -13,7 +13,7 @@ use Rattle.fx_request.specs.declared.request.OnRefused.TheVariants.{Stop, LeaveO
 use Rattle.fx_request.specs.Notices.{AreTold, HearsAll, Told}
 use Rattle.fx_strike.specs.Headline.{notices_of}
 use Rattle.fx_strike.specs.Strike.{Sketch, Setting, Plan, Fate, notices_in, fate_by, glyph_fate_of, fates_of, glyph_sketch_of}
-use Rattle.fx_strike.specs.Strike.{machineless, plan_with, Notice, Refusal, OnRefused, rising, Fails, Title}
+use Rattle.fx_strike.specs.Strike.{machineless, plan_within, Notice, Refusal, OnRefused, rising, Fails, Title}
 use Rattle.fx_strike.specs.inner.Surveying.{HearsBy, notices_by, notices_about}
 use Rattle.fx_strike.specs.inner.Mapping.{fates_in, mapped_fate_of, mapped_in, mapped_of, Mapped}
 use Rattle.fx_strike.proofs.OnePart.{chain_parts}
@@ -94,12 +94,13 @@ notices_chain f (x ∷ xs) fates h =
 
 -- the notices of a strike are those about its characters
 notices_are : (setting : Setting) (title : Title) (chars : List ℕ) (refused : OnRefused)
-    → notices_of (plan_with setting title chars refused) ≡ notices_about setting refused (mapped_of setting.map (rising chars))
-unfolding plan_with
+    → notices_of (plan_within setting title chars refused) ≡ notices_about setting refused (mapped_of setting.map (rising chars))
+unfolding plan_within
 notices_are setting title chars refused = by_fates (fates_of setting refused (rising chars)) refl
   where
     by_fates : (r : Result (List Fate) Refusal) → fates_of setting refused (rising chars) ≡ r
-        → notices_of (plan_with setting title chars refused) ≡ notices_about setting refused (mapped_of setting.map (rising chars))
+        → notices_of (plan_within setting title chars refused)
+        ≡ notices_about setting refused (mapped_of setting.map (rising chars))
     by_fates (Ok fates) h =
         rw h (notices_chain (mapped_fate_of setting refused) _ fates (fates_are setting refused (rising chars) ∙ h))
     by_fates (Err d) h = rw h (sym (quiet setting refused _ _ d (fates_are setting refused (rising chars) ∙ h)))
@@ -193,6 +194,6 @@ pub told_strike : {L Y : Type 0} {Hears : L → Notice → L → Type 0} {was no
     (chars : List ℕ) (refused : OnRefused) {mapped : List Mapped} {r : Result Y Refusal}
     → mapped ≡ mapped_of setting.map (rising chars)
     → Told Hears was now (notices_about setting refused mapped) r
-    → Told Hears was now (notices_of (plan_with setting title chars refused)) r
+    → Told Hears was now (notices_of (plan_within setting title chars refused)) r
 told_strike {L} {Y} {Hears} {was} {now} setting title chars refused {mapped} {r} c t =
     grind (arith, setting, title, chars, refused, c, t, notices_are)

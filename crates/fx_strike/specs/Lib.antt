@@ -1,6 +1,8 @@
 pub mod Faults
 pub mod Title
 pub mod Sketches
+pub mod Characters
+pub mod Careful
 pub mod Strike
 pub mod Numbered
 pub mod Headline

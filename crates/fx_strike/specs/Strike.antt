@@ -1,6 +1,6 @@
 -- The strike of a font, a size and characters, or the first cause why there is none.
-use Rattle.std.specs.Prelude.{◌≡◌, ◌↔◌, IsTrue, ℕ, ◌+◌, ◌*◌, nat_lt, ◌==◌, ◌||◌, not, ℤ, pos, ◌*ℤ◌, neg_ℤ, Bool, List, [], ◌∷◌, ◌++◌}
-use Rattle.std.specs.Prelude.{length, map, filter, if◌then◌else◌, true, false, Option, Some, None, Result, Ok, Err}
+use Rattle.std.specs.Prelude.{◌≡◌, ◌↔◌, IsTrue, ℕ, ◌+◌, ◌*◌, nat_lt, ◌==◌, ◌&&◌, ◌||◌, not, ℤ, pos, ◌*ℤ◌, neg_ℤ, Bool}
+use Rattle.std.specs.Prelude.{List, [], ◌∷◌, ◌++◌, length, map, filter, if◌then◌else◌, true, false, Option, Some, None, Result, Ok, Err}
 use Rattle.std.specs.List.{list_any, count_by, flat_map}
 use Rattle.fx_fixed.specs.Chain.{◌>>=◌, refuse, wanted, map_ok, map_fault, map_chain}
 use Rattle.fx_fixed.specs.Numbers.{near_of}
@@ -26,17 +26,19 @@ use Rattle.fx_gstate.specs.Scan.{wish_of}
 use Rattle.fx_gstate.specs.declared.scan.ScanType as asked
 use Rattle.fx_gstate.specs.declared.scan.ScanType.TheVariants as wish
 use Rattle.fx_raster.specs.Rules.{ShapeView, IsPixelSet, shape_of}
+use Rattle.fx_raster.specs.Work.{drawing_work}
 use Rattle.fx_bdf.specs.declared.header.Header.{Header}
 use Rattle.fx_bdf.specs.Glyphs.{IsTight, IsFormed, glyph_bit, bounds_of}
 use Rattle.fx_bdf.specs.Properties.{PropertyView, first_bad}
 use Rattle.fx_bdf.specs.Text.{is_name, header_text, glyph_text, end_text}
 use Rattle.fx_bdf.specs.X11.{all_properties, summary_of}
 use Rattle.fx_request.specs.declared.request.OnRefused.TheVariants.{Stop, LeaveOut, Unhinted}
-use Rattle.fx_request.specs.declared.refusal.Refusal.TheVariants.{BadSize, BadChars, BadName, BadProperty, Halted}
+use Rattle.fx_request.specs.declared.refusal.Refusal.TheVariants.{BadSize, BadChars, BadName, BadProperty, Halted, TooMuchWork}
 use Rattle.fx_request.specs.Faults.{of_font, of_char_map, of_machine}
 use Rattle.fx_strike.specs.declared.opened.Basis.{Basis}
 use Rattle.fx_strike.specs.declared.fate.Fate.TheVariants as fate
 use Rattle.fx_strike.specs.Faults.{of_hint, of_raster}
+use Rattle.fx_strike.specs.Careful.{first_budget, is_font_over, over_in, programs_left}
 -- what these definitions speak of, for all that speak of them
 pub use Rattle.fx_sfnt.specs.Collections.{FontFileView}
 pub use Rattle.fx_machine.specs.Known.{Known}
@@ -50,24 +52,33 @@ pub use Rattle.fx_request.specs.declared.refusal.Refusal.{Refusal}
 pub use Rattle.fx_strike.specs.Faults.{Fails}
 pub use Rattle.fx_strike.specs.Title.{Title}
 pub use Rattle.fx_strike.specs.Sketches.{Sketch}
+pub use Rattle.fx_strike.specs.Characters.{Mapped, mapped_of}
 pub use Rattle.fx_strike.specs.declared.opened.Opened.{Opened}
 pub use Rattle.fx_strike.specs.declared.fate.Fate.{Fate}
 
 -- ---- a font at a size
 
--- with hinting on the machine of a font at a size, in which `fpgm` ran, then `prep`; or the first halt. With hinting off none
-unfoldable pub machine_for : Face → ℕ → Bool → Result (Option Known) Refusal
-machine_for face ppem false = Ok None
-machine_for face ppem true = map_ok Some (map_fault of_machine (machine_of face ppem))
+-- the machine of a font at a size, in which `fpgm` ran, then `prep`; or the first halt. A careful strike bounds their work
+unfoldable pub machine_within : Face → ℕ → Bool → Result Known Refusal
+machine_within face ppem careful = do
+  _ ← refuse (careful && is_font_over face ppem) TooMuchWork
+  map_fault of_machine (machine_of face ppem)
 
--- all that a character's glyph depends on but its code point: a font, its character map, a size, drop-out control, and the machine;
--- and nothing that was made before
+-- the same with hinting on; none with hinting off
+unfoldable pub machine_for : Face → ℕ → Bool → Bool → Result (Option Known) Refusal
+machine_for face ppem false careful = Ok None
+machine_for face ppem true careful = map_ok Some (machine_within face ppem careful)
+
+-- all that a character's glyph depends on but its code point: a font, its character map, a size, drop-out control, the machine,
+-- whether work is bounded, and which code points are refused since they take too much; and nothing that was made before
 pub record Setting : Type 0 where
   pub font : Face
   pub map : Mapping
   pub ppem : ℕ
   pub dropout : Dropout
   pub machine : Option Known
+  pub careful : Bool
+  pub over : List ℕ
 
 -- which pixels an outline sets, as its font's programs asked; the left or the lower one of a gap if they asked for nothing
 abbrev pub asked_rule : Option asked.ScanType → Rule
@@ -88,22 +99,28 @@ abbrev pub rule_in : Setting → Option asked.ScanType → Rule
 rule_in setting wish = rule_for setting.dropout wish
 
 abbrev pub basis_of : Opened → Mode → Basis
-basis_of opened mode = record { opened = opened; dropout = mode.dropout }
+basis_of opened mode = record { opened = opened; dropout = mode.dropout; careful = mode.careful }
 
--- an opened font with drop-out control, and the machine
-abbrev pub setting_with : Basis → Option Known → Setting
-setting_with basis machine = record {
+-- an opened font with drop-out control, the machine, and the code points that take too much work
+abbrev pub setting_over : Basis → Option Known → List ℕ → Setting
+setting_over basis machine over = record {
   font = basis.opened.font;
   map = basis.opened.map;
   ppem = basis.opened.ppem;
   dropout = basis.dropout;
   machine = machine;
+  careful = basis.careful;
+  over = over;
 }
 
--- the setting of an opened font; or the first halt
+-- the same before any is known
+abbrev pub setting_with : Basis → Option Known → Setting
+setting_with basis machine = setting_over basis machine []
+
+-- the setting of an opened font; or the first halt, or too much work
 unfoldable pub setting_in : Opened → Mode → Result Setting Refusal
 setting_in opened mode = do
-  machine ← machine_for opened.font opened.ppem mode.hinting
+  machine ← machine_for opened.font opened.ppem mode.hinting mode.careful
   Ok (setting_with (basis_of opened mode) machine)
 
 -- what the machine adds to scaling; nothing without one
@@ -141,25 +158,22 @@ sketch_from setting code outline shape metrics = record {
   usage = outline.usage;
 }
 
+-- a code point takes too much work
+abbrev pub is_over : Setting → ℕ → Bool
+is_over setting code = list_any (λ c. c == code) setting.over
+
 -- the sketch of a code point by its glyph's number, or the first cause why it has none
 unfoldable pub glyph_sketch_of : Setting → ℕ → ℕ → Result Sketch Refusal
 glyph_sketch_of setting code glyph = do
+  _ ← refuse (is_over setting code) TooMuchWork
   outline ← map_fault of_hint (outline_in setting glyph)
   shape ← map_fault (of_raster glyph) (shape_of (rule_in setting outline.wish) outline.ends outline.points)
   metrics ← map_fault of_font (metrics_of setting.font glyph)
   Ok (sketch_from setting code outline shape metrics)
 
--- the sketch of a code point
-abbrev pub sketch_of : Setting → ℕ → Result Sketch Refusal
-sketch_of setting code = glyph_sketch_of setting code (glyph_for setting.map code)
-
 -- the font has no glyph for a code point
 abbrev pub is_missing : Setting → ℕ → Bool
 is_missing setting code = glyph_for setting.map code == 0
-
--- the sketch of a code point, none if the font lacks it; or the first cause
-unfoldable pub one_with : Setting → ℕ → Result (Option Sketch) Refusal
-one_with setting code = if is_missing setting code then Ok None else map_ok Some (sketch_of setting code)
 
 -- ---- characters that are refused
 
@@ -210,6 +224,54 @@ glyph_fate_of setting refused code glyph =
 abbrev pub fate_of : Setting → OnRefused → ℕ → Result Fate Refusal
 fate_of setting refused code = glyph_fate_of setting refused code (glyph_for setting.map code)
 
+-- ---- a careful strike
+
+-- the work of drawing a character with this fate; nothing is drawn of one that is refused
+abbrev pub drawing_by : Result Fate Refusal → ℕ
+drawing_by (Ok (fate.Drawn sketch)) = drawing_work sketch.shape.rule sketch.shape.spans
+drawing_by (Ok (fate.Unhinted notice sketch)) = drawing_work sketch.shape.rule sketch.shape.spans
+drawing_by (Ok (fate.LeftOut notice)) = 0
+drawing_by (Err cause) = 0
+
+-- what the programs of a glyph leave of so much work; none if they do more
+abbrev pub programs_in : Setting → ℕ → ℕ → Option ℕ
+programs_in setting glyph work = programs_left setting.machine setting.font setting.ppem glyph work
+
+-- the work of drawing a character, whatever takes too much
+abbrev pub drawing_in : Setting → OnRefused → Mapped → ℕ
+drawing_in setting refused m = drawing_by (glyph_fate_of (record setting { over = [] }) refused m.code m.glyph)
+
+-- the code points of characters that take too much work, if work is bounded: of those that come first the budget pays first
+abbrev pub over_among : Setting → OnRefused → List Mapped → List ℕ
+over_among setting refused mapped =
+    if setting.careful then over_in (programs_in setting) (drawing_in setting refused) mapped first_budget else []
+
+-- the setting in which these are refused
+unfoldable pub bounded : Setting → OnRefused → List Mapped → Setting
+bounded setting refused mapped = record setting { over = over_among setting refused mapped }
+
+-- those of these code points that the font has
+abbrev pub bounded_for : Setting → OnRefused → List ℕ → Setting
+bounded_for setting refused chars = bounded setting refused (mapped_of setting.map (rising chars))
+
+-- ---- one character
+
+-- the sketch of a code point by its glyph's number, for a call that is for it alone
+unfoldable pub sketch_alone : Setting → ℕ → ℕ → Result Sketch Refusal
+sketch_alone setting code glyph =
+    glyph_sketch_of (bounded setting Stop (record { code = code; glyph = glyph } ∷ [])) code glyph
+
+-- the sketch of one of the characters of a call, once it is known which of them take too much work; none if the font lacks it; or
+-- the first cause
+unfoldable pub one_among : Setting → ℕ → Result (Option Sketch) Refusal
+one_among setting code =
+    if is_missing setting code then Ok None else map_ok Some (glyph_sketch_of setting code (glyph_for setting.map code))
+
+-- that of a character in a call for it alone
+unfoldable pub one_with : Setting → ℕ → Result (Option Sketch) Refusal
+one_with setting code =
+    if is_missing setting code then Ok None else map_ok Some (sketch_alone setting code (glyph_for setting.map code))
+
 -- ---- the strike
 
 -- a strike before its bits, with what is told of refused characters, and what `fpgm` and `prep` used up and asked for
@@ -250,11 +312,16 @@ plan_from setting title chars fates = record {
   wish = wish_in setting.machine;
 }
 
--- the strike of a title and characters, or the first cause why there is none
-unfoldable pub plan_with : Setting → Title → List ℕ → OnRefused → Result Plan Refusal
-plan_with setting title chars refused = do
+-- the strike of a title and characters once it is known which take too much work, or the first cause why there is none
+unfoldable pub plan_within : Setting → Title → List ℕ → OnRefused → Result Plan Refusal
+plan_within setting title chars refused = do
   fates ← fates_of setting refused (rising chars)
   Ok (plan_from setting title chars fates)
+
+-- the strike of a title and characters, or the first cause why there is none
+unfoldable pub plan_with : Setting → Title → List ℕ → OnRefused → Result Plan Refusal
+plan_with setting title chars refused =
+    plan_within (bounded_for setting refused chars) title chars refused
 
 -- ---- the order of causes
 

@@ -4,4 +4,5 @@ pub mod Gathering
 pub mod Keeping
 pub mod Mapping
 pub mod Surveying
+pub mod Weighing
 pub mod Writing

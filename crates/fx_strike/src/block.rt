@@ -1,5 +1,5 @@
 //! Blocks: a font that was opened at a size, as words, so that no program runs when it is opened again.
-ghost use Rattle.std.specs.Prelude.{◌≡◌, Option, Ok, Some, true, IfOk, IfErr, IfSome, IsSome, IsErrOf, OnOk, is_some};
+ghost use Rattle.std.specs.Prelude.{◌≡◌, Bool, Option, Ok, Some, true, IfOk, IfErr, IfSome, IsSome, IsErrOf, OnOk, is_some};
 ghost use Rattle.fx_machine.specs.Blocks.{IsBlockOf};
 ghost use Rattle.fx_strike.specs.Blocks.{IsBlockFor, IsBlockIn, IsOwn, has_block, opened_in};
 ghost use Rattle.fx_strike.specs.Strike.{Setting, checked_chars, machine_for, setting_for, setting_in, setting_of, opened_at};
@@ -25,7 +25,8 @@ fn hinter_in<'a>(
     hinting: bool,
     block: &[u32],
 ) -> Result<Option<FontHinter<'a>>, AllocError>
-    ensures taken { IfOk result (λ made. (machine : Option Known) → machine_for opened.now.font opened.now.ppem hinting ≡ Ok machine
+    ensures taken { IfOk result (λ made. (machine : Option Known) (careful : Bool)
+        → machine_for opened.now.font opened.now.ppem hinting careful ≡ Ok machine
         → IsBlockFor machine block.now → made ≡ Some machine) }
     ensures own { IfOk result (λ made. (known : Known) → IsBlockOf known block.now → hinting ≡ true → IsSome made
         → IsOwn known opened.now.font opened.now.ppem) }
@@ -56,8 +57,8 @@ fn striker_in<'a>(
     let Some(hinter) = hinter_in(alloc, &opened, mode.hinting, block)? else {
         return Ok(None);
     };
-    let dropout = mode.dropout;
-    Ok(Some(Striker::with(alloc, &Rows, Basis { opened, dropout }, hinter)))
+    let basis = Basis::of(opened, mode);
+    Ok(Some(Striker::with(alloc, &Rows, basis, hinter)))
 }
 
 impl<'a> Striker<'a, Rows> {
@@ -132,7 +133,7 @@ impl<'a, S: Scan> Striker<'a, S> {
         ensures there { IfOk result (λ made. is_some made ≡ has_block self.now.machine) }
     {
         match &self.hinter.machine {
-            Some(machine) => machine.block(self.alloc),
+            Some(machine) => machine.machine.block(self.alloc),
             None => Ok(Some(Vec::new(self.alloc))),
         }
     }

@@ -1,15 +1,16 @@
 //! From a sketch to its bits.
 ghost use Rattle.std.specs.Prelude.{◌≡◌, ◌≤◌, ◌^◌, pos, unsigned_abs, IfOk, IfErr};
 ghost use Rattle.fx_fixed.specs.Numbers.{near_of};
-ghost use Rattle.fx_strike.specs.Strike.{IsGlyphOf, glyph_sketch_of};
+ghost use Rattle.fx_strike.specs.Strike.{IsGlyphOf, glyph_sketch_of, sketch_alone};
 ghost use Rattle.fx_strike.specs.inner.Drawing.{Draws};
 
+use crate::characters::Mapped;
 use crate::sketch::Sketch;
 use crate::striker::Striker;
 use fx_bdf::BitGlyph;
 use fx_fixed::{F26, near_64};
 use fx_raster::Scan;
-use fx_request::Refusal;
+use fx_request::{OnRefused, Refusal};
 
 /// An advance in whole pixels.
 pub(crate) fn whole_pixels(advance: F26) -> i32
@@ -41,5 +42,16 @@ impl<'a, S: Scan> Striker<'a, S> {
     {
         let sketch = self.sketch_at(code, glyph)?;
         self.glyph_of(&sketch)
+    }
+
+    /// The same for a call that is for it alone: it is refused if it takes too much work, and work is bounded.
+    pub(crate) fn draw_alone(&mut self, code: u32, glyph: u16) -> Result<BitGlyph, Refusal>
+        ensures kept { self.new ≡ self.old }
+        ensures sketch { Draws (sketch_alone self.old code glyph) result }
+    {
+        let before = self.bound(OnRefused::Stop, &[Mapped { code, glyph }])?;
+        let drawn = self.draw(code, glyph);
+        self.over = before;
+        drawn
     }
 }

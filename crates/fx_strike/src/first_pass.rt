@@ -1,7 +1,7 @@
 //! The first pass over the characters: a survey of the strike.
 ghost use Rattle.std.specs.Prelude.{◌≡◌, ◌≤◌, IfErr, OnOk};
 ghost use Rattle.fx_request.specs.Notices.{Told};
-ghost use Rattle.fx_strike.specs.Strike.{glyph_fate_of, notices_in, plan_with, max_code, Title};
+ghost use Rattle.fx_strike.specs.Strike.{glyph_fate_of, notices_in, plan_with, plan_within, max_code, Title};
 ghost use Rattle.fx_strike.specs.Headline.{notices_of};
 ghost use Rattle.fx_strike.specs.inner.Drawing.{CanBeDrawn, CanBeMade, IfDue};
 ghost use Rattle.fx_strike.specs.inner.Keeping.{IsKept, IsOfNone};
@@ -177,9 +177,9 @@ impl<'a, S: Scan> Striker<'a, S> {
         requires chars { AreChars chars.now }
         ensures kept { self.new ≡ self.old }
         ensures passes { (title : Title)
-            → IfDue (IsPassed self.old title chars.now refused) (plan_with self.old title chars.now refused) result }
+            → IfDue (IsPassed self.old title chars.now refused) (plan_within self.old title chars.now refused) result }
         ensures heard { (title : Title)
-            → Told L.Hears listener.old listener.new (notices_of (plan_with self.old title chars.now refused)) result }
+            → Told L.Hears listener.old listener.new (notices_of (plan_within self.old title chars.now refused)) result }
     {
         let characters = self.characters(chars)?;
         let mut kept = KeptText::new(self.alloc, has_room);
@@ -192,7 +192,8 @@ impl<'a, S: Scan> Striker<'a, S> {
         })
     }
 
-    /// The survey of the strike of characters within their limits, whatever its title.
+    /// The survey of the strike of characters within their limits, whatever its title. If work is bounded, it finds first which of
+    /// them take too much.
     pub(crate) fn survey_chars(
         &mut self,
         chars: &[u32],
@@ -200,7 +201,19 @@ impl<'a, S: Scan> Striker<'a, S> {
     ) -> Result<Survey, Refusal>
         requires chars { AreChars chars.now }
         ensures kept { self.new ≡ self.old }
-        ensures survey { SurveysNameless self.old chars.now refused result }
+        ensures survey { SurveysNameless (λ title. plan_with self.old title chars.now refused) result }
+    {
+        let before = self.bound_chars(refused, chars)?;
+        let result = self.survey_within(chars, refused);
+        self.over = before;
+        result
+    }
+
+    /// The same once these are known.
+    fn survey_within(&mut self, chars: &[u32], refused: OnRefused) -> Result<Survey, Refusal>
+        requires chars { AreChars chars.now }
+        ensures kept { self.new ≡ self.old }
+        ensures survey { SurveysNameless (λ title. plan_within self.old title chars.now refused) result }
     {
         let first = self.first_pass(chars, refused, false, &mut Deaf)?;
         Ok(first.survey)

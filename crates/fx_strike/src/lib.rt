@@ -10,6 +10,9 @@
 //! strikes one after the other; the other calls open one, and let it go. A crate above opens a font by `open_at` or `open_many`,
 //! and a striker of it by `Striker::of`.
 //!
+//! A careful strike refuses characters that take too much work. Before the passes it goes over its characters once, and finds which
+//! these are (`specs/Careful`).
+//!
 //! A strike is made in two passes over its characters: the first surveys it, so that no byte is written of a strike that is
 //! refused; the second writes it. The first pass keeps the lines of the first characters, up to 8 MiB; the second writes these,
 //! and makes the other characters again. Once nothing more is kept, the first pass makes a glyph's bits only if its frame is not
@@ -18,6 +21,7 @@
 #![tactic(auto)]
 
 mod block;
+mod census;
 mod characters;
 mod draw;
 mod fate;
@@ -30,6 +34,7 @@ pub mod laws;
 mod make;
 mod open;
 mod opened;
+mod over_codes;
 mod rule;
 mod second_pass;
 mod seen;
@@ -41,7 +46,7 @@ mod surveyed;
 pub use faults::of_hint;
 pub use fx_bdf::Title;
 pub use fx_raster::Rows;
-pub use hinter::machine_at;
+pub use hinter::{is_work_over, machine_at};
 pub use make::{make_strike, make_strike_sparing, make_strike_telling, make_strike_with, survey};
 pub use open::{check_chars, font_with_map, open_at, open_many};
 pub use opened::Opened;

@@ -1,10 +1,10 @@
 //! A font that is opened at a size, and what the glyphs of a strike depend on beside the machine.
 ghost use Rattle.std.specs.Prelude.{◌≡◌, ◌≤◌, neg_ℤ, unsigned_abs};
-ghost use Rattle.fx_strike.specs.Strike.{pixels};
+ghost use Rattle.fx_strike.specs.Strike.{basis_of, pixels};
 
 use fx_cmap::CharMap;
 use fx_fixed::{Ppem, near};
-use fx_request::Dropout;
+use fx_request::{Dropout, Mode};
 use fx_sfnt::Font;
 
 /// A valid size, and a font with its character map.
@@ -51,9 +51,23 @@ impl<'a> Opened<'a> {
     }
 }
 
-/// A font that is opened at a size, and drop-out control.
+/// A font that is opened at a size, drop-out control, and whether work is bounded.
 #[derive(Drop)]
 pub(crate) struct Basis<'a> {
     pub opened: Opened<'a>,
     pub dropout: Dropout,
+    pub careful: bool,
+}
+
+impl<'a> Basis<'a> {
+    /// An opened font in a mode, but for its hinting.
+    pub(crate) fn of(opened: Opened<'a>, mode: Mode) -> Basis<'a>
+        ensures { result ≡ basis_of opened.entry mode }
+    {
+        Basis {
+            opened,
+            dropout: mode.dropout,
+            careful: mode.careful,
+        }
+    }
 }

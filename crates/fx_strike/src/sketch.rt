@@ -1,14 +1,16 @@
 //! From a glyph's number to its outline, its shape and its advance: a character before its bits.
-ghost use Rattle.std.specs.Prelude.{◌≡◌};
+ghost use Rattle.std.specs.Prelude.{◌≡◌, IfOk};
 ghost use Rattle.fx_fixed.specs.Chain.{map_fault, GivesUnless};
 ghost use Rattle.fx_hint.specs.Outlines.{view_of_glyph_outline, outline_with};
 ghost use Rattle.fx_strike.specs.Faults.{Fails, of_hint};
-ghost use Rattle.fx_strike.specs.Numbered.{outlined_with};
-ghost use Rattle.fx_strike.specs.Strike.{hinting_by, machineless, setting_with, thousandths, glyph_sketch_of};
+ghost use Rattle.fx_strike.specs.Numbered.{is_glyph_over, outlined_with};
+ghost use Rattle.fx_strike.specs.Strike.{hinting_by, machineless, setting_over, thousandths, glyph_sketch_of, programs_in};
 
+use crate::census::CHARACTER_WORK;
 use crate::faults::{of_hint, of_raster};
 use crate::hinter::FontHinter;
 use crate::opened::{Basis, Opened};
+use crate::over_codes::OverCodes;
 use crate::rule::rule_for;
 use crate::striker::Striker;
 use fx_fixed::{F26, near};
@@ -17,7 +19,7 @@ use fx_machine::Usage;
 use fx_raster::{Scan, Shape};
 use fx_request::Refusal;
 use fx_sfnt::UnitsPerEm;
-use std::alloc::Global;
+use std::alloc::{AllocError, Global};
 use std::marker::Model;
 
 /// A character before its bits. Contracts see its advance in whole pixels.
@@ -83,12 +85,17 @@ fn sketch_by(
     spare: &mut Spare,
     hinter: &mut FontHinter<'_>,
     basis: &Basis<'_>,
+    over: &OverCodes,
     code: u32,
     glyph: u16,
 ) -> Result<Sketch, Refusal>
     ensures kept { hinter.new ≡ hinter.old }
-    ensures sketch { GivesUnless Fails (λ s. s) result (glyph_sketch_of (setting_with basis.now hinter.old) code glyph) }
+    ensures sketch { GivesUnless Fails (λ s. s) result
+        (glyph_sketch_of (setting_over basis.now hinter.old over.now) code glyph) }
 {
+    if over.has(code) {
+        return Err(Refusal::TooMuchWork);
+    }
     let made = outline_by(alloc, spare, hinter, &basis.opened, glyph)?;
     let rule = rule_for(basis.dropout, made.wish);
     let shape = match Shape::of(made.outline, rule) {
@@ -117,6 +124,9 @@ impl<'a, S: Scan> Striker<'a, S> {
         // Nothing of it has a part in what is made next.
         ensures kept { self.new ≡ self.old }
     {
+        if self.is_glyph_over(glyph)? {
+            return Err(Refusal::TooMuchWork);
+        }
         outline_by(
             self.alloc,
             &mut self.spare,
@@ -124,6 +134,30 @@ impl<'a, S: Scan> Striker<'a, S> {
             &self.basis.opened,
             glyph,
         )
+    }
+
+    /// What the programs of a glyph and of its components leave of so much work; none if they do more.
+    pub(crate) fn programs_left(
+        &mut self,
+        glyph: u16,
+        work: usize,
+    ) -> Result<Option<usize>, AllocError>
+        ensures kept { self.new ≡ self.old }
+        ensures left { IfOk result (λ left. left ≡ programs_in self.old glyph work) }
+    {
+        self.hinter.programs_left(self.alloc, &mut self.spare, &self.basis.opened, glyph, work)
+    }
+
+    /// Whether the programs of a glyph do more work than they may, if work is bounded.
+    fn is_glyph_over(&mut self, glyph: u16) -> Result<bool, AllocError>
+        ensures kept { self.new ≡ self.old }
+        ensures over { IfOk result (λ over. over ≡ is_glyph_over self.old glyph) }
+    {
+        if !self.basis.careful {
+            return Ok(false);
+        }
+        let left = self.programs_left(glyph, CHARACTER_WORK)?;
+        Ok(left.is_none())
     }
 
     /// The sketch of a code point by its glyph's number.
@@ -136,6 +170,7 @@ impl<'a, S: Scan> Striker<'a, S> {
             &mut self.spare,
             &mut self.hinter,
             &self.basis,
+            &self.over,
             code,
             glyph,
         )
@@ -152,6 +187,7 @@ impl<'a, S: Scan> Striker<'a, S> {
             &mut self.spare,
             &mut none,
             &self.basis,
+            &self.over,
             code,
             glyph,
         )

@@ -11,6 +11,7 @@ ghost use Rattle.fx_strike.specs.Headline.{IsCause, IsOneOf, Surveyed, Makes, La
 use crate::hinter::{FontHinter, hinter_at};
 use crate::open::{check_chars, check_text, open_many};
 use crate::opened::{Basis, Opened};
+use crate::over_codes::OverCodes;
 use crate::surveyed::Survey;
 use fx_bdf::{BitGlyph, Title};
 use fx_cmap::CharMap;
@@ -31,6 +32,8 @@ pub struct Striker<'a, S: Scan> {
     pub(crate) scan: &'a S,
     pub(crate) basis: Basis<'a>,
     pub(crate) hinter: FontHinter<'a>,
+    /// The characters of a call that take too much work; none between calls.
+    pub(crate) over: OverCodes,
     /// What scans work with.
     pub(crate) scratch: RasterScratch,
     /// The lists of an outline that is done with, which the next one takes over.
@@ -38,11 +41,11 @@ pub struct Striker<'a, S: Scan> {
 }
 
 impl<'a, S: Scan> Model for Striker<'a, S> {
-    ghost use Rattle.fx_strike.specs.Strike.{Setting, setting_with};
+    ghost use Rattle.fx_strike.specs.Strike.{Setting, setting_over};
 
     ghost Value = { Setting };
 
-    ghost view = { λ s. setting_with s.basis s.hinter };
+    ghost view = { λ s. setting_over s.basis s.hinter s.over };
 }
 
 impl<'a> Striker<'a, Rows> {
@@ -108,9 +111,9 @@ impl<'a, S: Scan> Striker<'a, S> {
         ensures late { IsErrOf result Refusal.OutOfMemory → Late opening.entry }
     {
         let opened = opening?;
-        let hinter = hinter_at(alloc, &opened, mode.hinting)?;
-        let dropout = mode.dropout;
-        Ok(Striker::with(alloc, scan, Basis { opened, dropout }, hinter))
+        let hinter = hinter_at(alloc, &opened, mode)?;
+        let basis = Basis::of(opened, mode);
+        Ok(Striker::with(alloc, scan, basis, hinter))
     }
 
     /// A striker with what glyphs depend on.
@@ -127,6 +130,7 @@ impl<'a, S: Scan> Striker<'a, S> {
             scan,
             basis,
             hinter,
+            over: OverCodes::none(alloc),
             scratch: RasterScratch::new(alloc),
             spare: Spare::new(alloc),
         }
@@ -150,7 +154,9 @@ impl<'a, S: Scan> Striker<'a, S> {
     pub fn with_scan<T: Scan>(self, scan: &'a T) -> Striker<'a, T>
         ensures { result ≡ self.entry }
     {
-        Striker::with(self.alloc, scan, self.basis, self.hinter)
+        let mut striker = Striker::with(self.alloc, scan, self.basis, self.hinter);
+        striker.over = self.over;
+        striker
     }
 
     /// Makes the glyph of one character: its bits, in their tight box, and its advances. None if the font lacks the character.
@@ -182,7 +188,7 @@ impl<'a, S: Scan> Striker<'a, S> {
         // Nothing of it has a part in what is made next.
         ensures kept { self.new ≡ self.old }
     {
-        self.draw(0, glyph)
+        self.draw_alone(0, glyph)
     }
 
     /// Surveys the strike of characters, whatever its name and properties: the numbers of its header, and what is counted over it.

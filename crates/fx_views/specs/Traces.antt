@@ -1,5 +1,5 @@
 -- Traces of a font's programs, and what a call that writes one leaves.
-use Rattle.std.specs.Prelude.{◌≡◌, ℕ, ◌+◌, ◌<◌, Bool, true, false, List, [], length, take, Option, Some, None}
+use Rattle.std.specs.Prelude.{◌≡◌, ℕ, ◌+◌, ◌<◌, ◌&&◌, if◌then◌else◌, Bool, true, false, List, [], length, take, Option, Some, None}
 use Rattle.std.specs.Prelude.{Result, Ok, Err, IfOk, IfErr, IsErrOf}
 use Rattle.std.specs.Io.KnownBytes.{Appends}
 use Rattle.fx_fixed.specs.Chain.{map_fault}
@@ -12,12 +12,13 @@ use Rattle.fx_trace.specs.Traces.{Trace, fpgm_trace, prep_trace, glyph_trace}
 use Rattle.fx_machine.specs.declared.program.FontProgram.TheVariants as program
 use Rattle.fx_request.specs.declared.request.TraceSubject.{TraceSubject}
 use Rattle.fx_request.specs.declared.request.TraceSubject.TheVariants.{Program, Glyph}
-use Rattle.fx_request.specs.declared.refusal.Refusal.TheVariants.{WriteFailed, OutOfMemory}
+use Rattle.fx_request.specs.declared.refusal.Refusal.TheVariants.{TooMuchWork, WriteFailed, OutOfMemory}
 use Rattle.fx_request.specs.Faults.{of_machine}
 use Rattle.fx_views.specs.Choices.{chosen_glyph, opened_choice_of}
 use Rattle.fx_strike.specs.Faults.{of_hint}
 use Rattle.fx_strike.specs.declared.opened.Opened.{Opened}
 use Rattle.fx_strike.specs.Strike.{Opening, opened_at, FontFileView, Refusal}
+use Rattle.fx_strike.specs.Numbered.{is_work_over}
 use Rattle.fx_strike.specs.Headline.{HasToName, Change}
 
 -- ---- the trace
@@ -59,18 +60,34 @@ told_in opened (Program program.Prep) = told_by (prep_trace opened.font opened.p
 told_in opened (Program (program.Glyph g)) = told_of opened (Some g)
 told_in opened (Glyph choice) = told_of opened (chosen_glyph opened.map choice)
 
+-- the glyph whose programs are traced, if it is one
+abbrev pub glyph_traced : Opened → TraceSubject → Option ℕ
+glyph_traced opened (Program program.Fpgm) = None
+glyph_traced opened (Program program.Prep) = None
+glyph_traced opened (Program (program.Glyph g)) = Some g
+glyph_traced opened (Glyph choice) = chosen_glyph opened.map choice
+
+-- the programs do more work than they may, if work is bounded
+abbrev pub is_trace_over : Opened → TraceSubject → Bool → Bool
+is_trace_over opened traced careful = careful && is_work_over opened (glyph_traced opened traced)
+
+-- the same trace, but none if the programs do more work than they may
+abbrev pub told_within : Opened → TraceSubject → Bool → EndedTrace
+told_within opened traced careful =
+    if is_trace_over opened traced careful then untold (Err TooMuchWork) else told_in opened traced
+
 -- the size, the font and its character map, and for a character its code point
 abbrev pub opening_for : FontFileView → ℕ → TraceSubject → Opening
 opening_for file ppem (Program _) = opened_at file ppem
 opening_for file ppem (Glyph choice) = opened_choice_of file ppem choice
 
-abbrev pub told_after : Opening → TraceSubject → EndedTrace
-told_after (Ok opened) traced = told_in opened traced
-told_after (Err refusal) traced = untold (Err refusal)
+abbrev pub told_after : Opening → TraceSubject → Bool → EndedTrace
+told_after (Ok opened) traced careful = told_within opened traced careful
+told_after (Err refusal) traced careful = untold (Err refusal)
 
 -- the trace of a font file at a size, or the first cause why there is none
-unfoldable pub trace_of : FontFileView → ℕ → TraceSubject → EndedTrace
-trace_of file ppem traced = told_after (opening_for file ppem traced) traced
+unfoldable pub trace_of : FontFileView → ℕ → TraceSubject → Bool → EndedTrace
+trace_of file ppem traced careful = told_after (opening_for file ppem traced) traced careful
 
 -- ---- what a call that writes a trace leaves
 

@@ -39,6 +39,13 @@ IsTipPart a (Some b) c p q = IsTip a b c p q
 
 -- the piece meets the segment from p to q: an end of it is between them; or it crosses, so that it adds one number to the winding
 -- number at p and another at q; or its tip comes between them
+--
+--            /                                _
+--     p-----/-----q     p-----a-----q     p--/--\--q     p-----------q
+--          /                 /              /    \          ___
+--         /                 /              /      \        /   \
+--      it crosses       an end is          the tip is      not met
+--                       between them       between them
 abbrev pub IsMet : Place → Place → Span → Type 0
 IsMet p q s = IsWithinRow p q s.a ⊎ (IsWithinRow p q s.c ⊎ (turn p s ≢ turn q s ⊎ IsTipPart s.a s.b s.c p q))
 

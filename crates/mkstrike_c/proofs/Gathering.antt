@@ -4,27 +4,27 @@ use Rattle.std.proofs.Common.{◌≡◌, refl, sym, ap, ◌∙◌, subst, arith,
 use Rattle.std.proofs.Common.{Bool, true, false}
 use Rattle.std.proofs.Common.{List, [], ◌∷◌, ◌++◌, length, take, get_or, length-append, add-zero, zero-add}
 use Rattle.std.proofs.Common.{Option, Some, None, Result, Ok, Err, All}
-use Rattle.std.specs.Prelude.{nat_lt, nat_le, ◌||◌, IfOk, IfErr, if◌then◌else◌, unwrap_or}
+use Rattle.std.specs.Prelude.{nat_le, IfOk, IfErr, if◌then◌else◌, unwrap_or}
 use Rattle.std.specs.Option.{option_or}
-use Rattle.std.specs.List.{flat_map, count_by, list_any, range_with_len}
+use Rattle.std.specs.List.{flat_map, count_by, range_with_len}
 use Rattle.std.proofs.lemmas.List.{append-nil, length-map, length-take-le, take_all, take_more, drop_all}
 use Rattle.std.proofs.lemmas.List.Elements.{All-head, All-tail}
 use Rattle.std.proofs.lemmas.List.FromFn.{length-range_with_len}
 use Rattle.std.proofs.lemmas.List.Concat.{flat_map-append}
 use Rattle.std.proofs.lemmas.List.Sums.{sum_by-cons, sum_by_push}
-use Rattle.std.proofs.lemmas.Bool.{ltb-false, or_parts}
 use Rattle.std.proofs.lemmas.Bool.Decides.{nat_tests}
-use Rattle.fx_fixed.specs.Chain.{◌>>=◌, refuse}
+use Rattle.fx_fixed.specs.Chain.{◌>>=◌}
 use Rattle.fx_sfnt.specs.Collections.{FontFileView}
 use Rattle.fx_bdf.specs.Glyphs as bits
 use Rattle.fx_request.specs.declared.refusal.Refusal.{Refusal}
 use Rattle.fx_request.specs.declared.request.Mode.{Mode}
-use Rattle.fx_request.specs.declared.refusal.Refusal.TheVariants.{BadChars, WriteFailed, ReadFailed, BadHex, InputTooLarge}
+use Rattle.fx_request.specs.declared.request.OnRefused.TheVariants.{Stop}
+use Rattle.fx_request.specs.declared.refusal.Refusal.TheVariants.{WriteFailed, ReadFailed, BadHex, InputTooLarge}
 use Rattle.fx_request.specs.declared.refusal.Refusal.TheVariants.{OutOfMemory}
-use Rattle.fx_request.specs.Limits.{max_characters, max_code}
 use Rattle.fx_strike.specs.Faults.{Fails}
-use Rattle.fx_strike.specs.Strike.{Sketch, Setting, Opening, checked_chars, opened_many_of, setting_for, setting_in, one_with}
-use Rattle.fx_strike.specs.Headline.{IsOneOf, Late, character_with}
+use Rattle.fx_strike.specs.Strike.{Sketch, Setting, Opening, bounded_for, one_among, opened_many_of, setting_for}
+use Rattle.fx_strike.specs.Strike.{setting_in}
+use Rattle.fx_strike.specs.Headline.{IsOneOf, Late}
 use Rattle.mkstrike_c.specs.declared.gathered.Drawn.{Drawn}
 use Rattle.mkstrike_c.specs.declared.gathered.Placed.{Placed}
 use Rattle.mkstrike_c.specs.declared.gathered.Wanted.{Wanted}
@@ -168,7 +168,7 @@ holds_push wanted codes outcomes code o old new long h same entries pixels drawn
 -- ---- many characters
 
 outcomes_push : (setting : Setting) (cs : List ℕ) (os : List Outcome) (c : ℕ) (o : Outcome)
-    → AreOutcomesOf setting cs os → IsOutcomeOf (one_with setting c) o → AreOutcomesOf setting (cs ++ c ∷ []) (os ++ o ∷ [])
+    → AreOutcomesOf setting cs os → IsOutcomeOf (one_among setting c) o → AreOutcomesOf setting (cs ++ c ∷ []) (os ++ o ∷ [])
 outcomes_push setting [] [] c o h k = (k, tt)
 outcomes_push setting (x ∷ xs) (p ∷ ps) c o h k = (h.0, outcomes_push setting xs ps c o h.1 k)
 outcomes_push setting [] (p ∷ ps) c o h k = absurd h
@@ -194,60 +194,26 @@ outcome_is : (due : Result (Option Sketch) Refusal) (o : Outcome) → IfOk o (Is
 outcome_is due (Ok made) h f n = h
 outcome_is due (Err d) h f n = cause_is due d f n
 
--- characters that pass are few, and each is within the limit
-pub chars_pass : (chars : List ℕ) → checked_chars chars ≡ Ok tt
-    → (length chars ≤ max_characters) × (list_any (nat_lt max_code) chars ≡ false)
-unfolding checked_chars
-chars_pass chars h = by_tests (nat_lt max_characters (length chars)) (list_any (nat_lt max_code) chars) refl h
-  where
-    by_tests : (a b : Bool) → nat_lt max_characters (length chars) ≡ a
-        → ◌≡◌ {A = Result (Unit {0}) Refusal} (refuse (a || b) BadChars) (Ok tt)
-        → (length chars ≤ max_characters) × (b ≡ false)
-    by_tests false false e h = (grind (arith, nat_tests), refl)
-    by_tests false true e h = absurd (cc)
-    by_tests true b e h = absurd (cc)
-
-pub one_checked : (setting : Setting) (c : ℕ) → c ≤ max_code → character_with setting c ≡ one_with setting c
-unfolding character_with checked_chars
-one_checked setting c h = by_test (nat_lt max_code c) refl
-  where
-    by_test : (b : Bool) → nat_lt max_code c ≡ b
-        → (refuse (b || false) BadChars >>= λ _. one_with setting c) ≡ one_with setting c
-    by_test false e = refl
-    by_test true e = absurd (let past : max_code < c = grind (arith, nat_tests) in omega (arith, past, h))
-
--- a code point of the list is within the limit
-code_fits : (codes : List ℕ) (i : ℕ) → list_any (nat_lt max_code) codes ≡ false → i < length codes → get_or codes i 0 ≤ max_code
-code_fits [] i h g = absurd (omega arith)
-code_fits (c ∷ cs) zero h g = ltb-false max_code c (or_parts (nat_lt max_code c) (list_any (nat_lt max_code) cs) h).0
-code_fits (c ∷ cs) (suc i) h g = code_fits cs i (or_parts (nat_lt max_code c) (list_any (nat_lt max_code) cs) h).1 (omega arith)
-
--- the character at a place of the list
-at_checked : (setting : Setting) (chars : List ℕ) (i : ℕ) → checked_chars chars ≡ Ok tt → i < length chars
-    → character_with setting (get_or chars i 0) ≡ one_with setting (get_or chars i 0)
-at_checked setting chars i h l = one_checked setting (get_or chars i 0) (code_fits chars i (chars_pass chars h).1 l)
-
 -- none is made yet
 pub none_made : (setting : Setting) (g : GlyphBuffers) → Holds g.wanted [] [] g → AreGathered setting [] g.wanted g
 none_made setting g h = record { outcomes = []; are = tt; holds = h }
 
 -- the character there was made and added
 pub made_at : (setting : Setting) (chars : List ℕ) (i : ℕ) (wanted : Wanted) (old new : GlyphBuffers) (o : Outcome)
-    → i < length chars → checked_chars chars ≡ Ok tt → AreGathered setting (take i chars) wanted old
-    → IfOk o (IsOneOf (character_with setting (get_or chars i 0)))
-    → IfErr o (λ d. Fails d (character_with setting (get_or chars i 0))) → is_memory o ≡ false
+    → i < length chars → AreGathered setting (take i chars) wanted old
+    → IfOk o (IsOneOf (one_among setting (get_or chars i 0)))
+    → IfErr o (λ d. Fails d (one_among setting (get_or chars i 0))) → is_memory o ≡ false
     → ((wanted : Wanted) (codes : List ℕ) (outcomes : List Outcome) → length codes ≡ length outcomes
     → Holds wanted codes outcomes old → Holds wanted (codes ++ get_or chars i 0 ∷ []) (outcomes ++ o ∷ []) new)
     → AreGathered setting (take (i + 1) chars) wanted new
-made_at setting chars i wanted old new o l h so_far is fails passed adds =
+made_at setting chars i wanted old new o l so_far is fails passed adds =
     let c = get_or chars i 0 in
     let P : List ℕ → Type 0 = λ codes. AreGathered setting codes wanted new in
-    let D : Result (Option Sketch) Refusal → Type 0 = λ due. IsOutcomeOf due o in
     let long = outcomes_long setting (take i chars) so_far.outcomes so_far.are in
     subst P (sym (take_more chars i 0 l)) (record {
       outcomes = so_far.outcomes ++ o ∷ [];
       are = outcomes_push setting (take i chars) so_far.outcomes c o so_far.are
-          (subst D (at_checked setting chars i h l) (outcome_is (character_with setting c) o is fails passed));
+          (outcome_is (one_among setting c) o is fails passed);
       holds = adds wanted (take i chars) so_far.outcomes long so_far.holds;
     })
 
@@ -290,7 +256,8 @@ refused_later file ppem chars mode s (Err d) k f = refused_memory file ppem char
 
 -- all are there
 pub gathered_from : (due : Result Setting Refusal) (codes : List ℕ) (s : Setting) (wanted : Wanted)
-    (r : Result GlyphBuffers Refusal) → due ≡ Ok s → IfOk r (AreGathered s codes wanted) → IfOk r (IsGathered wanted due codes)
+    (r : Result GlyphBuffers Refusal) → due ≡ Ok s → IfOk r (AreGathered (bounded_for s Stop codes) codes wanted)
+    → IfOk r (IsGathered wanted due codes)
 gathered_from due codes s wanted (Ok g) k are = record { setting = s; is = k; are = are }
 gathered_from due codes s wanted (Err e) k are = tt
 

@@ -6,6 +6,7 @@ use Rattle.std.specs.Prelude.{nat_le}
 use Rattle.std.proofs.lemmas.Bool.{eqb-true, eq-eqb, le-leb}
 use Rattle.fx_sfnt.specs.Collections.{face_in}
 use Rattle.fx_machine.specs.Words.{bit_of}
+use Rattle.fx_request.specs.declared.request.Mode.{Mode}
 use Rattle.mkstrike_c.specs.Prepared.{AreWordsOf, BeginsFor, IsBlock, IsFor, block_form, origin_words}
 use Rattle.mkstrike_c.specs.inner.Origin.{after_origin, has_origin}
 
@@ -36,12 +37,12 @@ origin_back file face ppem hinting ws = rw (
   origin_said file face ppem hinting ws,
 ) refl
 
-module _ (file : List ℕ) (face ppem : ℕ) (hinting : Bool) (block : List ℕ) (b : IsBlock file face ppem hinting block) where
-  there : after_origin file face ppem hinting block ≡ Some b.words
-  there = ap (after_origin file face ppem hinting) b.is ∙ origin_back file face ppem hinting b.words
+module _ (file : List ℕ) (face ppem : ℕ) (mode : Mode) (block : List ℕ) (b : IsBlock file face ppem mode block) where
+  there : after_origin file face ppem mode.hinting block ≡ Some b.words
+  there = ap (after_origin file face ppem mode.hinting) b.is ∙ origin_back file face ppem mode.hinting b.words
 
   -- the words after them are there
-  pub words_there : None ≡ after_origin file face ppem hinting block → ⊥
+  pub words_there : None ≡ after_origin file face ppem mode.hinting block → ⊥
   words_there e = let f : None ≡ Some b.words = e ∙ there in cc
 
 -- ---- a block that is taken
@@ -56,12 +57,12 @@ then_some false a ws e = cc
 
 -- the words are those that a block has after the first six
 pub words_are : (file : List ℕ) (face ppem : ℕ) (hinting : Bool) (block ws : List ℕ)
-    → Some ws ≡ after_origin file face ppem hinting block → (f : List ℕ) (i s : ℕ) (h : Bool) → IsBlock f i s h block
-    → AreWordsOf (face_in f i) s h ws
+    → Some ws ≡ after_origin file face ppem hinting block → (f : List ℕ) (i s : ℕ) (m : Mode) → IsBlock f i s m block
+    → AreWordsOf (face_in f i) s m ws
 unfolding after_origin
-words_are file face ppem hinting block ws e f i s h b =
+words_are file face ppem hinting block ws e f i s m b =
     let rest : ws ≡ b.words = then_some _ (drop 6 block) ws e ∙ ap (drop 6) b.is in
-    subst (AreWordsOf (face_in f i) s h) (sym rest) b.are
+    subst (AreWordsOf (face_in f i) s m) (sym rest) b.are
 
 right_one : (a b : Bool) → (a && b) ≡ true → b ≡ true
 right_one true b e = e
@@ -124,15 +125,15 @@ same_length m n high low = omega (arith, high, low)
 pub origin_for : (file : List ℕ) (face ppem : ℕ) (hinting : Bool) (block ws : List ℕ)
     → Some ws ≡ after_origin file face ppem hinting block → IsFor file face ppem hinting block
 unfolding after_origin
-origin_for file face ppem hinting block ws e f i s h b =
+origin_for file face ppem hinting block ws e f i s m b =
     let all = right_one (nat_le 6 (length block)) (has_origin file face ppem hinting block) (if_some _ (drop 6 block) ws e) in
-    let told : has_origin file face ppem hinting (origin_words f i s h ++ b.words) ≡ true =
+    let told : has_origin file face ppem hinting (origin_words f i s m.hinting ++ b.words) ≡ true =
     subst (λ w. has_origin file face ppem hinting w ≡ true) b.is all in
-    let six = all_six (block_form == block_form) (i == face) (s == ppem) (bit_of h == bit_of hinting)
+    let six = all_six (block_form == block_form) (i == face) (s == ppem) (bit_of m.hinting == bit_of hinting)
     (length f / 2 ^ 32 == length file / 2 ^ 32) (length f % 2 ^ 32 == length file % 2 ^ 32) told in (
       same_length (length f) (length file) (eqb-true (length f / 2 ^ 32) (length file / 2 ^ 32) six.3)
           (eqb-true (length f % 2 ^ 32) (length file % 2 ^ 32) six.4),
       eqb-true i face six.0,
       eqb-true s ppem six.1,
-      same_bit h hinting (eqb-true (bit_of h) (bit_of hinting) six.2),
+      same_bit m.hinting hinting (eqb-true (bit_of m.hinting) (bit_of hinting) six.2),
     )

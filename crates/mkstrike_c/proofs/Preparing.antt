@@ -8,13 +8,14 @@ use Rattle.fx_bdf.specs.Glyphs as bits
 use Rattle.fx_machine.specs.Known.{Known}
 use Rattle.fx_machine.specs.Blocks.{IsBlockOf, checksum_of}
 use Rattle.fx_request.specs.declared.request.Mode.{Mode}
+use Rattle.fx_request.specs.declared.request.OnRefused.TheVariants.{Stop}
 use Rattle.fx_request.specs.declared.refusal.Refusal.{Refusal}
 use Rattle.fx_request.specs.declared.refusal.Refusal.TheVariants.{OutOfMemory}
 use Rattle.fx_strike.specs.declared.opened.Opened.{Opened}
 use Rattle.fx_strike.specs.Faults.{Fails}
 use Rattle.fx_strike.specs.Blocks.{IsBlockIn, opened_in}
 use Rattle.fx_strike.specs.Blocks as block
-use Rattle.fx_strike.specs.Strike.{Sketch, Setting, Opening, checked_chars, machine_for, one_in, one_of, one_with, opened_after}
+use Rattle.fx_strike.specs.Strike.{Sketch, Setting, Opening, bounded_for, checked_chars, machine_for, one_in, one_of, one_with, opened_after}
 use Rattle.fx_strike.specs.Strike.{opened_at, opened_many_of, opened_one_of, setting_for, setting_in, setting_of, setting_with, basis_of}
 use Rattle.fx_strike.specs.Headline.{IsOneOf, Late, character_with}
 use Rattle.fx_strike.specs.Numbered.{numbered_with}
@@ -42,12 +43,12 @@ pub record IsSetBy (due : Result Setting Refusal) (words : List ℕ) : Type 0 wh
   pub is : due ≡ Ok setting
   pub block : IsBlockIn setting words
 
-in_set : (o : Opened) (mode : Mode) (m : Option Known) → machine_for o.font o.ppem mode.hinting ≡ Ok m
+in_set : (o : Opened) (mode : Mode) (m : Option Known) → machine_for o.font o.ppem mode.hinting mode.careful ≡ Ok m
     → setting_in o mode ≡ Ok (setting_with (basis_of o mode) m)
 unfolding setting_in
 in_set o mode m h = ap (λ (r : Result (Option Known) Refusal). r >>= λ m. Ok (setting_with (basis_of o mode) m)) h
 
-pub set_at : (file : FontFileView) (ppem : ℕ) (mode : Mode) (words : List ℕ) → AreWordsOf file ppem mode.hinting words
+pub set_at : (file : FontFileView) (ppem : ℕ) (mode : Mode) (words : List ℕ) → AreWordsOf file ppem mode words
     → IsSetBy (setting_of file ppem mode) words
 unfolding setting_of
 set_at file ppem mode words w = record {
@@ -57,7 +58,7 @@ set_at file ppem mode words w = record {
 }
 
 pub set_for : (file : FontFileView) (ppem : ℕ) (chars : List ℕ) (mode : Mode) (words : List ℕ)
-    → AreWordsOf file ppem mode.hinting words → Ok tt ≡ checked_chars chars → IsSetBy (setting_for file ppem chars mode) words
+    → AreWordsOf file ppem mode words → Ok tt ≡ checked_chars chars → IsSetBy (setting_for file ppem chars mode) words
 unfolding setting_for
 set_for file ppem chars mode words w pass = record {
   setting = setting_with (basis_of w.opened mode) w.machine;
@@ -77,14 +78,14 @@ same_made e = cc
 -- words of a block are taken
 pub taken_at : (file : FontFileView) (ppem : ℕ) (mode : Mode) (words : List ℕ) (made : Option Setting) → made ≡ None
     → ((s : Setting) → setting_of file ppem mode ≡ Ok s → IsBlockIn s words → made ≡ Some s)
-    → AreWordsOf file ppem mode.hinting words → ⊥
+    → AreWordsOf file ppem mode words → ⊥
 taken_at file ppem mode words made n t w =
     let k = set_at file ppem mode words w in not_none made k.setting n (t k.setting k.is k.block)
 
 pub taken_for : (file : FontFileView) (ppem : ℕ) (chars : List ℕ) (mode : Mode) (words : List ℕ) (made : Option Setting)
     → made ≡ None → Ok tt ≡ checked_chars chars
     → ((s : Setting) → setting_for file ppem chars mode ≡ Ok s → IsBlockIn s words → made ≡ Some s)
-    → AreWordsOf file ppem mode.hinting words → ⊥
+    → AreWordsOf file ppem mode words → ⊥
 taken_for file ppem chars mode words made n pass t w =
     let k = set_for file ppem chars mode words w pass in not_none made k.setting n (t k.setting k.is k.block)
 
@@ -121,7 +122,7 @@ pub one_found : (file : FontFileView) (ppem code : ℕ) (mode : Mode) (words : L
     (r : Result (Option bits.Glyph) Refusal) → made ≡ Some striker → Ok tt ≡ checked_chars (code ∷ [])
     → ((s : Setting) → setting_for file ppem (code ∷ []) mode ≡ Ok s → IsBlockIn s words → made ≡ Some s)
     → IfOk r (IsOneOf (character_with striker code)) → IfErr r (λ d. Fails d (character_with striker code))
-    → AreWordsOf file ppem mode.hinting words
+    → AreWordsOf file ppem mode words
     → IsFoundBy (IsOneOf (one_of file ppem code mode)) (IsReason (opened_one_of file ppem code) (one_of file ppem code mode))
     (Some r)
 one_found file ppem code mode words made striker r is pass t glyph cause w =
@@ -148,7 +149,7 @@ pub numbered_found : (file : FontFileView) (ppem glyph : ℕ) (mode : Mode) (wor
     → ((s : Setting) → setting_of file ppem mode ≡ Ok s → IsBlockIn s words → made ≡ Some s)
     → IfOk r (FindsById (map_ok Some (numbered_with striker (min glyph 65535))))
     → IfErr r (λ d. Fails d (map_ok Some (numbered_with striker (min glyph 65535))))
-    → AreWordsOf file ppem mode.hinting words
+    → AreWordsOf file ppem mode words
     → IsFoundBy (FindsById (by_id file ppem glyph mode)) (IsReason (opened_at file ppem) (by_id file ppem glyph mode)) (Some r)
 numbered_found file ppem glyph mode words made striker r is t found cause w =
     let set = set_by (setting_of file ppem mode) words made striker is t (set_at file ppem mode words w) in
@@ -178,8 +179,8 @@ pub gathered_found : (file : FontFileView) (ppem : ℕ) (chars : List ℕ) (mode
     (made : Option Setting) (striker : Setting) (r : Result GlyphBuffers Refusal) → made ≡ Some striker
     → Ok tt ≡ checked_chars chars
     → ((s : Setting) → setting_for file ppem chars mode ≡ Ok s → IsBlockIn s words → made ≡ Some s)
-    → IfOk r (AreGathered striker chars wanted) → IfErr r (λ d. d ≡ OutOfMemory)
-    → AreWordsOf file ppem mode.hinting words
+    → IfOk r (AreGathered (bounded_for striker Stop chars) chars wanted) → IfErr r (λ d. d ≡ OutOfMemory)
+    → AreWordsOf file ppem mode words
     → IsFoundBy (IsGathered wanted (setting_for file ppem chars mode) chars)
     (IsReason (opened_many_of file ppem chars) (setting_for file ppem chars mode)) (Some r)
 gathered_found file ppem chars mode wanted words made striker r is pass t are memory w =
@@ -200,9 +201,9 @@ same_setting : {x y : Setting} → ◌≡◌ {A = Result Setting Refusal} (Ok x)
 same_setting e = cc
 
 opened_set : (o : Opened) (mode : Mode) (s : Setting) → setting_in o mode ≡ Ok s
-    → machine_for o.font o.ppem mode.hinting ≡ Ok s.machine
+    → machine_for o.font o.ppem mode.hinting mode.careful ≡ Ok s.machine
 unfolding setting_in
-opened_set o mode s h = by_machine (machine_for o.font o.ppem mode.hinting) h
+opened_set o mode s h = by_machine (machine_for o.font o.ppem mode.hinting mode.careful) h
   where
     by_machine : (m : Result (Option Known) Refusal) → (m >>= λ m. Ok (setting_with (basis_of o mode) m)) ≡ Ok s
         → m ≡ Ok s.machine
@@ -211,12 +212,12 @@ opened_set o mode s h = by_machine (machine_for o.font o.ppem mode.hinting) h
     by_machine (Err e) h = absurd (cc)
 
 words_of_setting : (file : FontFileView) (ppem : ℕ) (mode : Mode) (s : Setting) (words : List ℕ)
-    → setting_of file ppem mode ≡ Ok s → IsBlockIn s words → AreWordsOf file ppem mode.hinting words
+    → setting_of file ppem mode ≡ Ok s → IsBlockIn s words → AreWordsOf file ppem mode words
 unfolding setting_of
 words_of_setting file ppem mode s words h b = by_opened (opened_at file ppem) refl h
   where
     by_opened : (o : Opening) → opened_at file ppem ≡ o → (o >>= λ o. setting_in o mode) ≡ Ok s
-        → AreWordsOf file ppem mode.hinting words
+        → AreWordsOf file ppem mode words
     by_opened (Ok o) e h = record {
       opened = o;
       machine = s.machine;
@@ -236,7 +237,7 @@ unmade file ppem mode s r e p q k =
 
 pub block_made : (file : List ℕ) (face ppem : ℕ) (mode : Mode) (s : Setting) (words made : List ℕ)
     → setting_of (face_in file face) ppem mode ≡ Ok s → IsBlockIn s words
-    → made ≡ origin_words file face ppem mode.hinting ++ words → IsBlock file face ppem mode.hinting made
+    → made ≡ origin_words file face ppem mode.hinting ++ words → IsBlock file face ppem mode made
 block_made file face ppem mode s words made k b is =
     record { words = words; are = words_of_setting (face_in file face) ppem mode s words k b; is = is }
 
@@ -248,11 +249,11 @@ same_opening e = cc
 own_at : (file : FontFileView) (ppem : ℕ) (hinting : Bool) (words : List ℕ) (s : Setting)
     → opened_at file ppem ≡ Ok (opened_in s)
     → ((known : Known) → IsBlockOf known words → hinting ≡ true → block.IsOwn known s.font s.ppem) → AreOwn file ppem hinting words
-own_at file ppem hinting words s e t f size o p w h i j =
+own_at file ppem hinting words s e t f size mode o p w h g i j =
     let face : w.opened ≡ o = same_opening (sym w.opens ∙ i) in
-    let k = known_is w.opened.font w.opened.ppem words w.machine (rw h at w.runs) w.of_machine in
+    let k = known_is w.opened.font w.opened.ppem mode.careful words w.machine (rw h at w.runs) w.of_machine in
     ap checksum_of (sym (k.face_is ∙ ap (λ (x : Opened). x.font) face))
-    ∙ (t k.known k.of_known h).1
+    ∙ (t k.known k.of_known g).1
     ∙ ap (λ (x : Opened). checksum_of x.font) (same_opening (sym e ∙ j))
 
 own_for : (file : FontFileView) (ppem : ℕ) (chars : List ℕ) (hinting : Bool) (words : List ℕ) (s : Setting)
@@ -290,11 +291,11 @@ own_striker_for file ppem chars mode words made striker r is pass opened own =
 -- so is the block
 pub own_found : {A : Type 0} (file : List ℕ) (face ppem : ℕ) (hinting : Bool) (block words : List ℕ) (found : Result A Refusal)
     (result : ℕ) → IsFor file face ppem hinting block
-    → ((f : List ℕ) (i s : ℕ) (h : Bool) → IsBlock f i s h block → AreWordsOf (face_in f i) s h words)
+    → ((f : List ℕ) (i s : ℕ) (m : Mode) → IsBlock f i s m block → AreWordsOf (face_in f i) s m words)
     → OnOk found (AreOwn (face_in file face) ppem hinting words) → IfErr found (λ r. 10 ≤ result) → result ≤ 1
     → IsOwn file face ppem hinting block
 own_found file face ppem hinting block words (Ok a) result for_this are own least small =
-    (for_this, λ f i s o p b h e k. own (face_in f i) s o p (are f i s hinting b) h e k)
+    (for_this, λ f i s m o p b h g e k. own (face_in f i) s m o p (are f i s m b) h g e k)
 own_found file face ppem hinting block words (Err e) result for_this are own least small = absurd (omega (arith, least, small))
 
 -- what was found is what is due

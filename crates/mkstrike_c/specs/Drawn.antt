@@ -5,7 +5,8 @@ use Rattle.std.specs.List.{flat_map, count_by}
 use Rattle.fx_bdf.specs.Glyphs as bits
 use Rattle.fx_request.specs.declared.refusal.Refusal.{Refusal}
 use Rattle.fx_request.specs.Refusals.{number_of}
-use Rattle.fx_strike.specs.Strike.{Sketch, Setting, one_with}
+use Rattle.fx_request.specs.declared.request.OnRefused.TheVariants.{Stop}
+use Rattle.fx_strike.specs.Strike.{Sketch, Setting, bounded_for, one_among}
 use Rattle.fx_strike.specs.Headline.{IsOneOf}
 use Rattle.mkstrike_c.specs.declared.glyph.GlyphInfo.{GlyphInfo}
 use Rattle.mkstrike_c.specs.declared.gathered.Placed.{Placed}
@@ -27,7 +28,7 @@ IsOutcomeOf due (Err refusal) = due ≡ Err refusal
 -- one for each character
 abbrev pub AreOutcomesOf : Setting → List ℕ → List Outcome → Type 0
 AreOutcomesOf setting [] [] = Unit {0}
-AreOutcomesOf setting (c ∷ cs) (o ∷ os) = IsOutcomeOf (one_with setting c) o × AreOutcomesOf setting cs os
+AreOutcomesOf setting (c ∷ cs) (o ∷ os) = IsOutcomeOf (one_among setting c) o × AreOutcomesOf setting cs os
 AreOutcomesOf setting _ _ = ⊥
 
 -- a glyph was made; the font lacks the character; it was refused
@@ -98,15 +99,15 @@ pub record HasFront {A : Type 0} (whole old new : List A) : Type 0 where
   pub front : take (length whole) new ≡ take (length old) whole
   pub rest : drop (length whole) new ≡ drop (length whole) old
 
--- a setting is due; these are the entries of the characters made in it, their pixels and their counts, and the fields of the first
--- that was refused; if none was, the caller's are as they were
+-- a setting is due; these are the entries of the characters made in it as those of one call, their pixels and their counts, and the
+-- fields of the first that was refused; if none was, the caller's are as they were
 pub record AreDrawn (packed : Bool) (due : Result Setting Refusal) (codes : List ℕ) (old_entries new_entries : List Placed)
     (old new : List ℕ) (drawn : Drawn) (old_refused new_refused : Refused) : Type 0
   where
     pub setting : Setting
     pub outcomes : List Outcome
     pub is : due ≡ Ok setting
-    pub are : AreOutcomesOf setting codes outcomes
+    pub are : AreOutcomesOf (bounded_for setting Stop codes) codes outcomes
     pub entries : HasFront (entries_from packed 0 outcomes) old_entries new_entries
     pub pixels : HasFront (all_pixels packed outcomes) old new
     pub drawn_is : drawn ≡ drawn_of packed outcomes

@@ -6,6 +6,7 @@ use Rattle.fx_machine.specs.Known.{Known}
 use Rattle.fx_machine.specs.Words.{bit_of}
 use Rattle.fx_machine.specs.Blocks.{checksum_of}
 use Rattle.fx_request.specs.declared.refusal.Refusal.{Refusal}
+use Rattle.fx_request.specs.declared.request.Mode.{Mode}
 use Rattle.fx_strike.specs.declared.opened.Opened.{Opened}
 use Rattle.fx_strike.specs.Strike.{Opening, Setting, machine_for, opened_at}
 use Rattle.fx_strike.specs.Blocks.{IsBlockFor, has_block}
@@ -29,24 +30,24 @@ origin_words file face ppem hinting =
 abbrev pub BeginsFor : List ℕ → ℕ → ℕ → Bool → List ℕ → Type 0
 BeginsFor file face ppem hinting block = (words : List ℕ) × (block ≡ origin_words file face ppem hinting ++ words)
 
--- the font opens at the size, and words are a block of its machine; any words are, if its programs don't run
-pub record AreWordsOf (file : FontFileView) (ppem : ℕ) (hinting : Bool) (words : List ℕ) : Type 0 where
+-- the font opens at the size in a mode, and words are a block of its machine; any words are, if its programs don't run
+pub record AreWordsOf (file : FontFileView) (ppem : ℕ) (mode : Mode) (words : List ℕ) : Type 0 where
   pub opened : Opened
   pub machine : Option Known
   pub opens : opened_at file ppem ≡ Ok opened
-  pub runs : machine_for opened.font opened.ppem hinting ≡ Ok machine
+  pub runs : machine_for opened.font opened.ppem mode.hinting mode.careful ≡ Ok machine
   pub of_machine : IsBlockFor machine words
 
--- a block of a font at a size
-pub record IsBlock (file : List ℕ) (face ppem : ℕ) (hinting : Bool) (block : List ℕ) : Type 0 where
+-- a block of a font at a size in a mode
+pub record IsBlock (file : List ℕ) (face ppem : ℕ) (mode : Mode) (block : List ℕ) : Type 0 where
   pub words : List ℕ
-  pub are : AreWordsOf (face_in file face) ppem hinting words
-  pub is : block ≡ origin_words file face ppem hinting ++ words
+  pub are : AreWordsOf (face_in file face) ppem mode words
+  pub is : block ≡ origin_words file face ppem mode.hinting ++ words
 
 -- a block was made; as many of its words as fit stand at the front of the caller's buffer, and what lies after them is as it was
-pub record IsPrepared (file : List ℕ) (face ppem : ℕ) (hinting : Bool) (old new : List ℕ) (need : ℕ) : Type 0 where
+pub record IsPrepared (file : List ℕ) (face ppem : ℕ) (mode : Mode) (old new : List ℕ) (need : ℕ) : Type 0 where
   pub block : List ℕ
-  pub is : IsBlock file face ppem hinting block
+  pub is : IsBlock file face ppem mode block
   pub front : HasFront block old new
   pub need_is : need ≡ length block
 
@@ -74,18 +75,20 @@ IsRefusedBy true number refused =
 
 -- a block is for a file of this length, for this face and size, and hinted or unhinted like this
 abbrev pub IsFor : List ℕ → ℕ → ℕ → Bool → List ℕ → Type 0
-IsFor file face ppem hinting block = (f : List ℕ) (i s : ℕ) (h : Bool) → IsBlock f i s h block
-    → (length f ≡ length file) × (i ≡ face) × (s ≡ ppem) × (h ≡ hinting)
+IsFor file face ppem hinting block = (f : List ℕ) (i s : ℕ) (m : Mode) → IsBlock f i s m block
+    → (length f ≡ length file) × (i ≡ face) × (s ≡ ppem) × (m.hinting ≡ hinting)
 
 -- hinted, words are those of no font with another checksum in `head`
 abbrev pub AreOwn : FontFileView → ℕ → Bool → List ℕ → Type 0
-AreOwn file ppem hinting words = (f : FontFileView) (s : ℕ) (o p : Opened) → AreWordsOf f s hinting words → hinting ≡ true
-    → opened_at f s ≡ Ok o → opened_at file ppem ≡ Ok p → checksum_of o.font ≡ checksum_of p.font
+AreOwn file ppem hinting words = (f : FontFileView) (s : ℕ) (m : Mode) (o p : Opened) → AreWordsOf f s m words
+    → m.hinting ≡ true → hinting ≡ true → opened_at f s ≡ Ok o → opened_at file ppem ≡ Ok p
+    → checksum_of o.font ≡ checksum_of p.font
 
 -- so is a block
 abbrev pub HasChecksum : List ℕ → ℕ → ℕ → Bool → List ℕ → Type 0
-HasChecksum file face ppem hinting block = (f : List ℕ) (i s : ℕ) (o p : Opened) → IsBlock f i s hinting block → hinting ≡ true
-    → opened_at (face_in f i) s ≡ Ok o → opened_at (face_in file face) ppem ≡ Ok p → checksum_of o.font ≡ checksum_of p.font
+HasChecksum file face ppem hinting block = (f : List ℕ) (i s : ℕ) (m : Mode) (o p : Opened) → IsBlock f i s m block
+    → m.hinting ≡ true → hinting ≡ true → opened_at (face_in f i) s ≡ Ok o → opened_at (face_in file face) ppem ≡ Ok p
+    → checksum_of o.font ≡ checksum_of p.font
 
 -- a block that is taken is for this, and is of no font with another checksum
 abbrev pub IsOwn : List ℕ → ℕ → ℕ → Bool → List ℕ → Type 0
@@ -95,9 +98,9 @@ IsOwn file face ppem hinting block = IsFor file face ppem hinting block × HasCh
 abbrev pub HasItsOrigin : PreparedFont → Type 0
 HasItsOrigin by = BeginsFor by.at.font.now by.at.face by.at.ppem (mode_of by.at.mode).hinting by.block.now
 
--- a block of that
+-- a block of that. A careful mode opens no font whose `fpgm` and `prep` do too much work, so there is none of it
 abbrev pub HasItsBlock : PreparedFont → Type 0
-HasItsBlock by = IsBlock by.at.font.now by.at.face by.at.ppem (mode_of by.at.mode).hinting by.block.now
+HasItsBlock by = IsBlock by.at.font.now by.at.face by.at.ppem (mode_of by.at.mode) by.block.now
 
 -- a block that is taken for that
 abbrev pub IsItsOwn : PreparedFont → Type 0

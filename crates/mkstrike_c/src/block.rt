@@ -2,7 +2,8 @@
 //!
 //! The first six words say what a block is for: its form, the face, the size, whether the font's programs run, and the length of
 //! the file. Those of the machine follow (`fx_strike::Striker::block`), if the font's programs run.
-ghost use Rattle.std.specs.Prelude.{◌≡◌, ◌<◌, ◌++◌, ◌/◌, ◌%◌, ◌^◌, ◌≤◌, true, ℕ, Bool, List, IfOk, IfErr, IfSome, IsNone, IsSome, OnOk, length, option_map};
+ghost use Rattle.std.specs.Prelude.{◌≡◌, ◌<◌, ◌++◌, ◌/◌, ◌%◌, ◌^◌, ◌≤◌, true, ℕ, List, IfOk, IfErr, IfSome, IsNone, IsSome, OnOk, length, option_map};
+ghost use Rattle.fx_request.specs.declared.request.Mode.{Mode};
 ghost use Rattle.fx_sfnt.specs.Collections.{face_in};
 ghost use Rattle.fx_strike.specs.Strike.{opened_at, setting_of};
 ghost use Rattle.mkstrike_c.specs.FontAt.{file_at};
@@ -92,8 +93,8 @@ fn after_origin<'a>(
 
 /// The words of a block after those that say what it is for, if that is this font, face and size, and programs that run or don't.
 pub fn words_for<'a>(by: &PreparedFont<'a>) -> Option<&'a [u32]>
-    ensures words { IfSome result (λ w. (f : List ℕ) (i s : ℕ) (h : Bool) → IsBlock f i s h by.now.block.now
-        → AreWordsOf (face_in f i) s h w.now) }
+    ensures words { IfSome result (λ w. (f : List ℕ) (i s : ℕ) (m : Mode) → IsBlock f i s m by.now.block.now
+        → AreWordsOf (face_in f i) s m w.now) }
     ensures taken { HasItsBlock by.now → IsSome result }
     ensures own { IsSome result → IsFor by.now.at.font.now by.now.at.face by.now.at.ppem (mode_of by.now.at.mode).hinting
         by.now.block.now }
@@ -115,7 +116,7 @@ fn block_of(
     ppem: u16,
     mode: Mode,
 ) -> Result<Option<Vec<u32>>, Refusal>
-    ensures block { IfOk result (λ made. IfSome made (λ b. IsBlock font.now face ppem mode.hinting b.items)) }
+    ensures block { IfOk result (λ made. IfSome made (λ b. IsBlock font.now face ppem mode b.items)) }
     ensures none { IfOk result (λ made. IsNone made → HasNone (setting_of (face_in font.now face) ppem mode)) }
     ensures refused { IfErr result (IsReason (opened_at (face_in font.now face) ppem)
         (setting_of (face_in font.now face) ppem mode)) }
@@ -142,7 +143,7 @@ pub extern "C" fn proved_mkstrike_prepare(
     // No bit of the mode is unknown.
     ensures known { result ≡ 0 → is_mode at.now.mode ≡ true }
     // A block was made, as many of its words as fit were copied, and this is how many it has.
-    ensures block { result ≡ 0 → IsPrepared at.now.font.now at.now.face at.now.ppem (mode_of at.now.mode).hinting
+    ensures block { result ≡ 0 → IsPrepared at.now.font.now at.now.face at.now.ppem (mode_of at.now.mode)
         block.old block.new need.new }
     // The mode was named; or the first cause; or memory was refused, after the font and its character map opened; or there is no
     // block of the font.

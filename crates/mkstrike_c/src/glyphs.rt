@@ -1,7 +1,8 @@
 //! Many characters for C.
 ghost use Rattle.std.specs.Prelude.{◌≡◌, ◌<◌, ◌≤◌, [], true, false, Ok, IfOk, IfErr, OnOk, length};
 ghost use Rattle.fx_request.specs.Refusals.{number_of};
-ghost use Rattle.fx_strike.specs.Strike.{checked_chars, opened_many_of, setting_for};
+ghost use Rattle.fx_request.specs.declared.request.OnRefused.TheVariants.{Stop};
+ghost use Rattle.fx_strike.specs.Strike.{bounded_for, checked_chars, opened_many_of, setting_for};
 ghost use Rattle.mkstrike_c.specs.Drawn.{AreDrawn};
 ghost use Rattle.mkstrike_c.specs.FontAt.{file_at};
 ghost use Rattle.mkstrike_c.specs.Modes.{is_mode, is_packed, mode_of};
@@ -46,13 +47,13 @@ fn gather(
     let mut gathered = none;
     // `gathered` has the characters before this one.
     'chars: for code in chars {
-        let outcome = settled(striker.glyph(*code))?;
+        let outcome = settled(striker.one_among(*code))?;
         gathered.add(*code, &outcome)?;
     }
     Ok(gathered)
 }
 
-/// Makes the characters of an opened font, in memory.
+/// Makes the characters of an opened font, in memory. If work is bounded, they pay for it together.
 pub fn gathered_with(
     alloc: Global,
     striker: &mut Striker<'_, Rows>,
@@ -60,9 +61,10 @@ pub fn gathered_with(
     wanted: Wanted,
 ) -> Result<GlyphBuffers, Refusal>
     requires chars { Ok tt ≡ checked_chars chars.now }
-    ensures gathered { IfOk result (AreGathered striker.old chars.now wanted) }
+    ensures gathered { IfOk result (AreGathered (bounded_for striker.old Stop chars.now) chars.now wanted) }
     ensures memory { IfErr result (λ r. r ≡ Refusal.OutOfMemory) }
 {
+    striker.bound_for(chars)?;
     let none = GlyphBuffers::new(alloc, wanted, chars.len())?;
     gather(striker, chars, none)
 }

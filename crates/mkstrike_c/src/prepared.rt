@@ -28,7 +28,7 @@ use fx_strike::Striker;
 
 /// The glyph of a character, by the words of a block. None if they are not those of one.
 fn one_by(at: &FontAt<'_>, words: &[u32], code: u32) -> Option<Result<Option<BitGlyph>, Refusal>>
-    ensures due { AreWordsOf (file_at at.now) at.now.ppem (mode_of at.now.mode).hinting words.now
+    ensures due { AreWordsOf (file_at at.now) at.now.ppem (mode_of at.now.mode) words.now
         → IsFoundBy (IsOneOf (one_of (file_at at.now) at.now.ppem code (mode_of at.now.mode)))
         (IsReason (opened_one_of (file_at at.now) at.now.ppem code)
         (one_of (file_at at.now) at.now.ppem code (mode_of at.now.mode))) result }
@@ -104,7 +104,7 @@ fn numbered_by(
     words: &[u32],
     glyph: u32,
 ) -> Option<Result<Option<BitGlyph>, Refusal>>
-    ensures due { AreWordsOf (file_at at.now) at.now.ppem (mode_of at.now.mode).hinting words.now
+    ensures due { AreWordsOf (file_at at.now) at.now.ppem (mode_of at.now.mode) words.now
         → IsFoundBy (FindsById (by_id (file_at at.now) at.now.ppem glyph (mode_of at.now.mode)))
         (IsReason (opened_at (file_at at.now) at.now.ppem)
         (by_id (file_at at.now) at.now.ppem glyph (mode_of at.now.mode))) result }
@@ -167,7 +167,7 @@ fn gathered_by(
     chars: &[u32],
     wanted: Wanted,
 ) -> Option<Result<GlyphBuffers, Refusal>>
-    ensures due { AreWordsOf (file_at at.now) at.now.ppem (mode_of at.now.mode).hinting words.now
+    ensures due { AreWordsOf (file_at at.now) at.now.ppem (mode_of at.now.mode) words.now
         → IsFoundBy (IsGathered wanted (setting_for (file_at at.now) at.now.ppem chars.now (mode_of at.now.mode)) chars.now)
         (IsReason (opened_many_of (file_at at.now) at.now.ppem chars.now)
         (setting_for (file_at at.now) at.now.ppem chars.now (mode_of at.now.mode))) result }

@@ -1,4 +1,4 @@
-//! Scans by pixels and by rows: by hand, with small and with large frames, and each against the other.
+//! Scans by pixels and by rows: by hand, with small and with large frames.
 ghost use Rattle.std.specs.Prelude.{◌≤◌};
 ghost use Rattle.fx_winding.specs.Frames.{HasMargin};
 
@@ -72,16 +72,6 @@ const RING: [Curve; 8] = [
     ((0, 1000), None, (1000, 0)),
 ];
 
-/// A box through centres, and a level line and a flat arc beside it.
-const CENTRES: [Curve; 6] = [
-    ((-1856, -1856), None, (1984, -1856)),
-    ((1984, -1856), None, (1984, 320)),
-    ((1984, 320), None, (-1856, 320)),
-    ((-1856, 320), None, (-1856, -1856)),
-    ((-1000, 832), None, (1500, 832)),
-    ((64, 960), Some((1600, 960)), (320, 960)),
-];
-
 /// Whether the scan by rows of a frame sets pixels inside the ring, and none in its hole and outside.
 fn shows_ring(alloc: Global, frame: Frame) -> Result<bool, Fail> {
     let found = scanned(
@@ -102,38 +92,6 @@ fn memory_for_scans_by_rows(rt: HostRuntime) -> Result<(), Fail> {
     assert!(rt; scanned(rt.alloc(), &Rows, &RING, empty, &[], &[(3, 4)])? == (true, 0));
     assert!(rt; shows_ring(rt.alloc(), frame(-4096, -256, MAX_SIDE, 512))?);
     assert!(rt; shows_ring(rt.alloc(), frame(-256, -4096, 512, MAX_SIDE))?);
-    Ok(())
-}
-
-/// Whether two bitmaps have the same bits in the columns and rows from -20 to 19.
-fn same_bits(a: &Bitmap, b: &Bitmap) -> bool {
-    for up in 0..40u32 {
-        for across in 0..40u32 {
-            let col = across as i32 - 20;
-            let row = up as i32 - 20;
-            if a.bit(col, row) != b.bit(col, row) {
-                return false;
-            }
-        }
-    }
-    true
-}
-
-/// Whether the scan by rows sets the bits that the scan by pixels sets, in the columns and rows from -20 to 19, by at most ten
-/// tests for each piece and row.
-fn scans_agree(alloc: Global, curves: &[Curve]) -> Result<bool, ScanFault> {
-    let pieces = outline(alloc, curves)?;
-    let frame = frame(-20, -20, 40, 40);
-    let mut few = Tally::new();
-    let by_rows = Rows.scan(alloc, &pieces, frame, &mut few)?;
-    let by_pixels = Plain.scan(alloc, &pieces, frame, &mut Tally::new())?;
-    Ok(same_bits(&by_rows, &by_pixels) && few.tests() <= 400 * pieces.len() as u64)
-}
-
-#[test]
-fn rows_like_pixels(rt: HostRuntime) -> Result<(), Fail> {
-    assert!(rt; scans_agree(rt.alloc(), &RING)?);
-    assert!(rt; scans_agree(rt.alloc(), &CENTRES)?);
     Ok(())
 }
 

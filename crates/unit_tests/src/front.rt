@@ -1,6 +1,8 @@
 //! The front, with a place in memory and a program that does what it is told.
 use fx_fixed::{Limits, MemorySink, MemorySource, Sink, Source, put_all};
-use fx_front::{AskedRun, Destination, Facts, Parts, RefusalFacts, Text, Tool, run_to_file};
+use fx_front::{
+    AskedRun, Destination, Facts, FontFacts, Parts, RefusalFacts, Text, Tool, run_to_file,
+};
 use fx_words::{listed, lists_in, part};
 use std::alloc::{AllocError, Global};
 use std::test::Fail;
@@ -87,13 +89,15 @@ impl Fake {
             facts: Facts {
                 strike: None,
                 refused: if status == 1 { Some(refused) } else { None },
-                start: None,
-                is_variable: false,
-                has_bitmaps: false,
-                missing: Text::new(alloc),
-                has_more: false,
-                first: None,
-                is_cut: false,
+                font: FontFacts {
+                    start: None,
+                    is_variable: false,
+                    has_bitmaps: false,
+                    missing: Text::new(alloc),
+                    has_more: false,
+                    first: None,
+                    is_cut: false,
+                },
             },
         }
     }

@@ -1,6 +1,6 @@
 //! Tests of public calls of the crates below the machine, and of the front, that no command shows: writers that fail, lookups in
-//! any order, texts of faults. They stand here, since a crate with tests is proved twice. Their expected values come from the public
-//! formats and from arithmetic by hand.
+//! any order, texts of faults. They stand here, since a crate with tests is proved twice. Their expected values come from the
+//! public formats and from arithmetic by hand.
 #![tactic(auto)]
 
 #[cfg(test)]

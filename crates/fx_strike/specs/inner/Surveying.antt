@@ -10,8 +10,8 @@ use Rattle.fx_machine.specs.Usages.{no_usage, usage_with}
 use Rattle.fx_request.specs.Notices.{HearsAll}
 pub use Rattle.fx_strike.specs.declared.first_pass.FirstPass.{FirstPass}
 pub use Rattle.fx_strike.specs.declared.seen.Seen.{Seen}
-use Rattle.fx_strike.specs.Strike.{Sketch, Setting, Fate, IsGlyphOf, AreGlyphsOf, sketches_in, notices_in, pixels, plan_with}
-use Rattle.fx_strike.specs.Strike.{prelude_by, wish_in, rising, Refusal, max_characters, max_code, Notice, OnRefused, Title}
+use Rattle.fx_strike.specs.Strike.{Sketch, Setting, Plan, Fate, IsGlyphOf, AreGlyphsOf, sketches_in, notices_in, pixels}
+use Rattle.fx_strike.specs.Strike.{plan_within, prelude_by, wish_in, rising, Refusal, max_characters, max_code, Notice, OnRefused, Title}
 use Rattle.fx_strike.specs.declared.fate.Fate.TheVariants.{Drawn, Unhinted, LeftOut}
 use Rattle.fx_strike.specs.Headline.{Surveyed, Survey}
 use Rattle.fx_strike.specs.inner.Drawing.{IfDue}
@@ -129,10 +129,9 @@ survey_from setting seen missing = record {
   };
 }
 
--- that of characters, whatever their title
-abbrev pub SurveysNameless : Setting → List ℕ → OnRefused → Result Survey Refusal → Type 0
-SurveysNameless setting chars refused result =
-    (title : Title) → IfDue (Surveyed (plan_with setting title chars refused)) (plan_with setting title chars refused) result
+-- that of strikes that differ in their title alone
+abbrev pub SurveysNameless : (Title → Result Plan Refusal) → Result Survey Refusal → Type 0
+SurveysNameless strike result = (title : Title) → IfDue (Surveyed (strike title)) (strike title) result
 
 -- ---- what the first pass leaves
 
@@ -141,4 +140,4 @@ pub record IsPassed (setting : Setting) (title : Title) (chars : List ℕ) (refu
   pub mapped_are : first.mapped.items ≡ mapped_of setting.map (rising chars)
   pub within : AreMapped first.mapped.items
   pub lines : IsKept setting refused first.mapped.items first.kept
-  pub surveyed : Surveyed (plan_with setting title chars refused) first.survey
+  pub surveyed : Surveyed (plan_within setting title chars refused) first.survey

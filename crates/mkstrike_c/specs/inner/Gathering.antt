@@ -3,7 +3,8 @@ use Rattle.std.specs.Prelude.{◌≡◌, ℕ, ◌+◌, ◌*◌, ◌^◌, ◌≤�
 use Rattle.std.specs.Prelude.{Result, Ok, Err}
 use Rattle.fx_request.specs.declared.refusal.Refusal.{Refusal}
 use Rattle.fx_request.specs.declared.refusal.Refusal.TheVariants.{OutOfMemory}
-use Rattle.fx_strike.specs.Strike.{Setting}
+use Rattle.fx_request.specs.declared.request.OnRefused.TheVariants.{Stop}
+use Rattle.fx_strike.specs.Strike.{Setting, bounded_for}
 use Rattle.mkstrike_c.specs.declared.gathered.Drawn.{Drawn}
 use Rattle.mkstrike_c.specs.declared.gathered.Placed.{Placed}
 use Rattle.mkstrike_c.specs.declared.gathered.Wanted.{Wanted}
@@ -49,11 +50,11 @@ pub record AreGathered (setting : Setting) (codes : List ℕ) (wanted : Wanted) 
   pub are : AreOutcomesOf setting codes outcomes
   pub holds : Holds wanted codes outcomes g
 
--- the setting is due, and they were made in it
+-- the setting is due, and they were made in it as those of one call
 pub record IsGathered (wanted : Wanted) (due : Result Setting Refusal) (codes : List ℕ) (g : GlyphBuffers) : Type 0 where
   pub setting : Setting
   pub is : due ≡ Ok setting
-  pub are : AreGathered setting codes wanted g
+  pub are : AreGathered (bounded_for setting Stop codes) codes wanted g
 
 -- what was gathered was copied and told
 pub record AreTold (g : GlyphBuffers) (old_entries new_entries : List Placed) (old new : List ℕ) (drawn : Drawn)

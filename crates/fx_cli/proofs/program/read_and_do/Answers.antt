@@ -3,39 +3,41 @@ use Rattle.std.proofs.KnownBytes.{Keeps-refl}
 use Rattle.fx_arguments.specs.Commands.{seen}
 use Rattle.fx_strike.proofs.Exits.{came}
 use Rattle.fx_cli.specs.Runs.{font_bytes}
-use Rattle.fx_cli.proofs.Made.{task_ends, told_as, untold}
+use Rattle.fx_cli.proofs.Made.{task_ends, told_as, untold, untold_after}
 use Rattle.fx_cli.proofs.Telling.{no_font, no_text}
 use Rattle.fx_cli.proofs.program.read_and_do.Goals as goal
 
-pub returns-in_err-command : goal.returns-in_err-command
-returns-in_err-command g c =
+pub returns-in_err-command-clause-ends : goal.returns-in_err-command-clause-ends
+returns-in_err-command-clause-ends g c =
     rw (came c.from_residual.result c.from_residual.ensures.1)
-    (untold (inl (c.in_err-command.field-0.0, refl, c.in_err-command.ensures, (refl, refl), (refl, refl), refl)))
+    (untold (inl (
+      c.in_err-command.field-0.0,
+      refl,
+      record {
+        why = c.in_err-command.ensures;
+        unread = (refl, refl);
+        untouched = (refl, refl);
+        silent = refl;
+        unseen = c.requires.unseen;
+      },
+    )))
 
-pub returns-in_err-text : goal.returns-in_err-text
-returns-in_err-text g c =
+pub returns-in_err-text-clause-ends : goal.returns-in_err-text-clause-ends
+returns-in_err-text-clause-ends g c =
     let e = (c.in_err-text.ensures).cut in
     rw (came c.from_residual-in_err-text.result c.from_residual-in_err-text.ensures.1)
-    (untold (inr (
-      seen c.in_ok-command.command,
-      c.in_ok-command.ensures,
-      no_text (seen c.in_ok-command.command) c.args.ahead.now _ _ e.0 e.1 e.3 (Keeps-refl _, refl)
-          c.in_err-text.field-0.0 e.2,
-    )))
+    (untold_after c.args.ahead.now c.in_ok-command.ensures (no_text (seen c.in_ok-command.command) c.args.ahead.now _ _ _ e.0 e.1
+    e.3 (Keeps-refl _, refl) c.requires.unseen c.in_err-text.field-0.0 e.2))
 
-pub returns-in_err-bytes : goal.returns-in_err-bytes
-returns-in_err-bytes g c =
+pub returns-in_err-bytes-clause-ends : goal.returns-in_err-bytes-clause-ends
+returns-in_err-bytes-clause-ends g c =
     let e = (c.in_ok-text.ensures).whole in
     rw (came c.from_residual-in_err-bytes.result c.from_residual-in_err-bytes.ensures.1)
-    (untold (inr (
-      seen c.in_ok-command.command,
-      c.in_ok-command.ensures,
-      no_font (seen c.in_ok-command.command) c.args.ahead.now _ _ e.0 _ e.1 e.2 e.4 e.3 (Keeps-refl _, refl)
-          c.in_err-bytes.field-0.0 c.in_err-bytes.ensures.refused,
-    )))
+    (untold_after c.args.ahead.now c.in_ok-command.ensures (no_font (seen c.in_ok-command.command) c.args.ahead.now _ _ _ e.0 _ e.1
+    e.2 e.4 e.3 (Keeps-refl _, refl) c.requires.unseen c.in_err-bytes.field-0.0 c.in_err-bytes.ensures.refused))
 
-pub returns : goal.returns
-returns g c =
+pub returns-clause-ends : goal.returns-clause-ends
+returns-clause-ends g c =
     let e = (c.in_ok-text.ensures).whole in
     let hex = c.in_ok-command.command.hex in
     let decoded : font_bytes hex (c.args.ahead.now.text ++ e.0) ≡ Some c.deref.result.now
@@ -54,5 +56,6 @@ returns g c =
         font = c.deref.result.now;
         decoded = decoded;
         leaves = rw c.new-font.ensures at leaves;
+        seen = rw c.new-font.ensures at c.seen_of.ensures;
       }),
     )))

@@ -11,8 +11,8 @@ use Rattle.fx_cli.proofs.Made.{told_as, untold}
 use Rattle.fx_cli.proofs.Telling.{no_line, no_room}
 use Rattle.fx_cli.proofs.program.read_line_and_do.Goals as goal
 
-pub returns-in_default : goal.returns-in_default
-returns-in_default g c =
+pub returns-in_default-clause-ends : goal.returns-in_default-clause-ends
+returns-in_default-clause-ends g c =
     let given : List Text = texts c.args.arguments.now in
     let first : List ℕ = take c.in_ok-filled.filled c.read_line.new.buffer in
     let all : length first ≡ c.in_ok-filled.filled =
@@ -23,12 +23,11 @@ returns-in_default g c =
       read = c.in_ok-filled.ensures.read;
       spared = (Keeps-refl (g.O.Sink.held c.args.out.now), refl);
       silent = refl;
+      unseen = c.requires.unseen;
       reason = (
         rw (few_arguments c.args.arguments.now c.requires.given) (inr (
-          line_read first (g.R.Source.left c.read_line.new.reader) (elim c.in_ok-filled.ensures.whole [
-            | inl h ↦ inl (omega (arith, h, all, c.in_ok-filled.ensures.line))
-            | inr h ↦ inr h
-          ]),
+          line_read c.read_line.new.buffer c.in_ok-filled.filled c.in_ok-filled.end _
+              (omega (arith, c.in_ok-filled.ensures.sizes.1)) c.in_ok-filled.ensures.line c.in_ok-filled.ensures.whole,
           inl (rw line at c.in_default.ensures.cases.0),
         )),
         for_line given first _ (few_arguments c.args.arguments.now c.requires.given)
@@ -36,21 +35,21 @@ returns-in_default g c =
       );
     })
 
-pub returns-in_err-filled : goal.returns-in_err-filled
-returns-in_err-filled g c =
+pub returns-in_err-filled-clause-ends : goal.returns-in_err-filled-clause-ends
+returns-in_err-filled-clause-ends g c =
     let e = (c.in_err-filled.ensures).cut in
     rw (came c.from_residual.result c.from_residual.ensures.1)
-    (untold (no_line (texts c.args.arguments.now) _ _ e.0 (few_arguments c.args.arguments.now c.requires.given) e.1
-    (Keeps-refl (g.O.Sink.held c.args.out.now), refl) c.in_err-filled.field-0.0 e.2))
+    (untold (no_line (texts c.args.arguments.now) _ _ _ e.0 (few_arguments c.args.arguments.now c.requires.given) e.1
+    (Keeps-refl (g.O.Sink.held c.args.out.now), refl) c.requires.unseen c.in_err-filled.field-0.0 e.2))
 
-pub returns-in_err-arguments : goal.returns-in_err-arguments
-returns-in_err-arguments g c =
-    untold (no_room (texts c.args.arguments.now) _ _ _ c.in_ok-filled.ensures.read
-    (Keeps-refl (g.O.Sink.held c.args.out.now), refl) c.from_residual-in_err-arguments.result
+pub returns-in_err-arguments-clause-ends : goal.returns-in_err-arguments-clause-ends
+returns-in_err-arguments-clause-ends g c =
+    untold (no_room (texts c.args.arguments.now) _ _ _ _ c.in_ok-filled.ensures.read
+    (Keeps-refl (g.O.Sink.held c.args.out.now), refl) c.requires.unseen c.from_residual-in_err-arguments.result
     c.from_residual-in_err-arguments.ensures.1)
 
-pub returns : goal.returns
-returns g c =
+pub returns-clause-ends : goal.returns-clause-ends
+returns-clause-ends g c =
     let given : List Text = texts c.args.arguments.now in
     let first : List ℕ = take c.in_ok-filled.filled c.read_line.new.buffer in
     let all : length first ≡ c.in_ok-filled.filled =
@@ -69,10 +68,10 @@ returns g c =
       faults_before = g.O.Sink.fault_count c.args.out.now;
       faults = g.O.Sink.fault_count c.read_and_do.new.out;
     } in
-    let told = rw c.of-ahead.ensures at c.read_and_do.ensures in
+    let told = rw c.of-ahead.ensures at c.read_and_do.ensures.ends in
     told_as told (λ notices ends. first_ends {given = given} {first = first} {before = g.R.Source.left c.args.reader.now}
     {arguments = texts c.deref.result.now}
-    (g.R.Source.fault_count c.args.reader.now) source sink notices (sym c.in_ok-filled.ensures.quiet)
+    (g.R.Source.fault_count c.args.reader.now) source sink notices c.read_and_do.new.watch (sym c.in_ok-filled.ensures.quiet)
     (record {
       none = few_arguments c.args.arguments.now c.requires.given;
       read = c.in_ok-filled.ensures.read;
@@ -82,8 +81,6 @@ returns g c =
       arguments_are = ap texts c.deref.ensures.value ∙ c.in_ok-arguments.ensures ∙
           ap₂ (λ (p l : List ℕ). p ∷ arguments_of_line l) c.program_name.ensures line_is;
     })
-    (line_read first (g.R.Source.left c.read_line.new.reader) (elim c.in_ok-filled.ensures.whole [
-      | inl h ↦ inl (omega (arith, h, all, c.in_ok-filled.ensures.line))
-      | inr h ↦ inr h
-    ]))
+    (line_read c.read_line.new.buffer c.in_ok-filled.filled c.in_ok-filled.end _ (omega (arith, c.in_ok-filled.ensures.sizes.1))
+    c.in_ok-filled.ensures.line c.in_ok-filled.ensures.whole)
     c.read_and_do.result ends)

@@ -31,7 +31,7 @@ returns-then-is_after-clause-added c = λ n l.
     let y = ap (λ (q : Place). q.y) at in
     let right : HasAll (λ e. p.x <ℤ e.x) s =
     HasAll-weaker (λ e. held (held q.x +ℤ pos 127) <ℤ e.x) (λ e. p.x <ℤ e.x) (λ e h. omega (arith, signed_linear, near, x, l, h)) s
-    (c.is_after.ensures c.if-is_after.true) in
+    (c.is_after.ensures.0 c.if-is_after.true) in
     let level : held q.y ≡ p.y = omega (arith, signed_linear, near', y) in
     let value = c.turn_right.ensures.value ∙ (λ i. above (level i) s.c.y -ℤ above (level i) s.a.y) ∙ sym (left_of_all p s right) in
     let size = c.turn_right.ensures.size in

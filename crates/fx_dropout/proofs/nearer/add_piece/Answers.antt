@@ -11,7 +11,7 @@ returns-then-is_missed-clause-added c = λ n l.
     let s = seen_span c.args.is_turned (span_of c.args.piece.now) in
     let at = c.centre_of-first.ensures ∙ centre_held c.args.pair in
     missed_added s c.args.pair.col c.args.pair.row n _ _
-    (subst (λ (p : Place). IsMissed p s) at (c.is_missed.ensures c.if-is_missed.true))
+    (subst (λ (p : Place). IsMissed p s) at (c.is_missed.ensures.0 c.if-is_missed.true))
 
 pub returns-clause-added : goal.returns-clause-added
 returns-clause-added c =

@@ -8,14 +8,14 @@ use Rattle.fx_front.specs.Lines.{IsSilent}
 use Rattle.fx_front.proofs.Answering.{one_fault, quiet}
 use Rattle.fx_front.proofs.Parting.{parted_is}
 use Rattle.fx_front.proofs.front.answer_or_run.Goals as goal
-use Rattle.fx_front.proofs.front.answer_or_run.Goals.{in-Some-lists, in-None-lists}
+use Rattle.fx_front.proofs.front.answer_or_run.Goals.{in-Some-lists, in-None}
 
 pub run_on_files-requires : goal.run_on_files-requires
 run_on_files-requires g c =
     let told = change_of g.E.Sink.held g.E.Sink.fault_count in
     let silent : IsSilent (told c.args.err.now c.answer.new.err) = quiet (seen_asked c.asked_by-asked.result)
     (change_of g.O.Sink.held g.O.Sink.fault_count c.args.out.now c.answer.new.out) told c.args.err.now c.answer.new.err
-    c.in-None.ensures in
+    c.in_default.ensures in
     omega (
       arith,
       c.requires.err,
@@ -29,7 +29,7 @@ unfolding RunsBy
 returns-then-names_files-clause-came g c =
     let listed : text_in c.match-lists.listed ≡ option_map string_bytes c.in_ok-lists.lists = elim c.match-lists.branch [
       | in-Some-lists w ↦ rw (w.listed-is, w.in-Some-lists.is, w.as_str.ensures.value) refl
-      | in-None-lists w ↦ rw (w.listed-is, w.in-None-lists.is) refl
+      | in-None w ↦ rw (w.listed-is, w.in-None.is) refl
     ] in
     let parts = parted_is c.args.words.now c.split_at.result.0.now c.split_at.result.1.now c.command_in-count.ensures.command
     c.command_in-count.ensures.count c.is_make-is_make.ensures c.split_at.ensures.front c.split_at.ensures.back
@@ -42,7 +42,7 @@ returns-then-names_files-clause-came g c =
       (
         None,
         c.answer.new.err,
-        rw c.asked_by-asked.ensures at c.in-None.ensures,
+        rw c.asked_by-asked.ensures at c.in_default.ensures,
         rw names (
           c.hint_at_terminal.new.err,
           rw (c.font_of.ensures, ap (λ (view : PartsView). view.font) parts) at c.hint_at_terminal.ensures.told,
@@ -57,7 +57,7 @@ unfolding RunsBy
 returns-clause-came g c =
     let listed : text_in c.match-lists.listed ≡ option_map string_bytes c.in_ok-lists.lists = elim c.match-lists.branch [
       | in-Some-lists w ↦ rw (w.listed-is, w.in-Some-lists.is, w.as_str.ensures.value) refl
-      | in-None-lists w ↦ rw (w.listed-is, w.in-None-lists.is) refl
+      | in-None w ↦ rw (w.listed-is, w.in-None.is) refl
     ] in
     let parts = parted_is c.args.words.now c.split_at.result.0.now c.split_at.result.1.now c.command_in-count.ensures.command
     c.command_in-count.ensures.count c.is_make-is_make.ensures c.split_at.ensures.front c.split_at.ensures.back
@@ -70,7 +70,7 @@ returns-clause-came g c =
       (
         None,
         c.answer.new.err,
-        rw c.asked_by-asked.ensures at c.in-None.ensures,
+        rw c.asked_by-asked.ensures at c.in_default.ensures,
         rw names
             (rw (parts, c.command_in-count.ensures.command, c.is_explained-is_explained.ensures) at c.run_on_streams.ensures.ran),
       ),

@@ -1,6 +1,4 @@
 use Rattle.std.proofs.Common.{◌∙◌, sym, inl, inr}
-use Rattle.fx_front.specs.Places.{held_by}
-use Rattle.fx_front.proofs.Ending.{ends}
 use Rattle.fx_front.proofs.run.run_to_file.Goals as goal
 
 pub returns-clause-ran : goal.returns-clause-ran
@@ -11,12 +9,13 @@ returns-clause-ran g c = record {
     status = c.run-status.result;
     is_blank = c.is_blank-is_blank.result;
     is_named = c.settle.result;
-    is_unmade = c.if-has_faults.is_unmade;
+    is_unmade = c.is_unmade-is_unmade.result;
   };
-  ends = rw c.ended_status.ensures (ends _ _ (record {
-    held = held_by g.P.New.Write.contents g.P.Destination.fresh c.close-new.result;
+  ran = record {
+    new = c.close-new.result;
     faults = c.run-status.new.out.faults;
     ran = rw (c.new-late.ensures.held, c.new-late.ensures.faults, sym c.close-new.ensures) at c.run-status.ensures.ran;
+    unmade = rw c.faults-faults.ensures at c.is_unmade-is_unmade.ensures;
     named = λ e. (
       elim (c.settle.ensures.due e) [
         | inl h ↦ inl h
@@ -26,7 +25,7 @@ returns-clause-ran g c = record {
     );
     spared = c.settle.ensures.spared;
     sure = c.settle.ensures.sure;
-  }));
+  };
   ended = c.ended_status.ensures;
   first = c.say_end.ensures.3;
   second = c.say_end.ensures.4;

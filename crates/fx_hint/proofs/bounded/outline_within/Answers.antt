@@ -2,7 +2,7 @@ use Rattle.std.proofs.Common.{◌≡◌, ◌∙◌, sym, true, false, refl, Ok, 
 use Rattle.std.proofs.lemmas.Result.{err_from_is_err_and}
 use Rattle.fx_hint.specs.Bounded.{left_after, outline_within}
 use Rattle.fx_hint.specs.Outlines.{view_of_glyph_outline}
-use Rattle.fx_hint.proofs.Bounding.{left_by_runs, spent, not_spent, none_of}
+use Rattle.fx_hint.proofs.Bounding.{left_by_fault, left_by_runs, spent, not_spent, none_of}
 use Rattle.fx_hint.proofs.bounded.outline_within.Goals as goal
 
 pub outline_in-result-requires : goal.outline_in-result-requires
@@ -27,6 +27,13 @@ returns-then-stops-clause-value c =
     c.outline_in-result.new.hinter c.outline_in-result.result _ c.outline_in-result.ensures.leads
     (sym c.stops.ensures ∙ c.if-stops.true) in
     rw all refl
+
+pub returns-in_err-result-clause-left : goal.returns-in_err-result-clause-left
+unfolding left_after
+returns-in_err-result-clause-left c =
+    let p = err_from_is_err_and c.from_residual.result c.from_residual.ensures.1 in
+    rw (p.1, p.2) (left_by_fault (λ m. m.machine.known) (λ m. m.watcher.watcher) (λ w. w.watcher) c.args.machine.now
+    c.outline_in-result.new.hinter c.in_err-result.field-0.0 _ c.in_err-result.ensures.leads)
 
 pub returns-in_err-result-clause-value : goal.returns-in_err-result-clause-value
 unfolding left_after outline_within

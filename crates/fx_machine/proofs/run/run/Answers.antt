@@ -2,7 +2,7 @@ use Rattle.std.proofs.Common.{◌≡◌, ◌+◌, ◌-◌, ◌∙◌, refl, sym,
 use Rattle.fx_pointops.proofs.Keeping.{shapes_same, shapes_then}
 use Rattle.fx_machine.proofs.Keeping.{sized, sized_then}
 use Rattle.fx_machine.proofs.Looping.{halted_here, stepped, unseen_halt, unseen_end}
-use Rattle.fx_machine.proofs.Watched.{seen_first, seen_one, seen_all, seen_stopped}
+use Rattle.fx_machine.proofs.Watched.{seen_first, seen_one, seen_all, seen_stopped, stopped_first, stopped_one}
 use Rattle.fx_machine.proofs.Stepping.{events_begin, one_event}
 use Rattle.fx_machine.proofs.run.run.Goals as goal
 
@@ -12,6 +12,7 @@ steps-init g c =
     record {
       answer = rw none (search rules);
       watched = seen_first _ (events_begin _ _ _ _ _ c.new.result.items (search rules)) (rw c.name.ensures at c.begin.ensures);
+      early = stopped_first _ (events_begin _ _ _ _ _ c.new.result.items (search rules)) (rw c.name.ensures at c.begin.ensures);
       bytes = cc;
       counted = omega arith;
       shapes = shapes_same c.args.state.now.zones;
@@ -51,6 +52,10 @@ steps-preserved g c =
       answer = rw next (stepped _ 0 _ _ _ _ _ _ c.steps.calls.open_calls.items _ _ c.steps.invariant.answer _ (omega arith)
           (rw c.steps.invariant.bytes at c.in-Ok.ensures.moved));
       watched = seen_one c.steps.invariant.watched
+          (one_event _ _ _ _ _ _ _ c.advance.new.calls.open_calls.items c.advance.new.cursor.program c.advance.new.cursor.address
+          c.advance.new.state _ refl (omega arith) (rw c.steps.invariant.bytes at c.in-Ok.ensures.moved))
+          (rw (c.name-name.ensures, c.steps.invariant.bytes) at c.tell.ensures);
+      early = stopped_one c.steps.invariant.early (sym c.stops.ensures ∙ c.if-stops.false)
           (one_event _ _ _ _ _ _ _ c.advance.new.calls.open_calls.items c.advance.new.cursor.program c.advance.new.cursor.address
           c.advance.new.state _ refl (omega arith) (rw c.steps.invariant.bytes at c.in-Ok.ensures.moved))
           (rw (c.name-name.ensures, c.steps.invariant.bytes) at c.tell.ensures);

@@ -9,5 +9,6 @@ returns-in_default-clause-setting c = grind (arith, c.in_default.is, c.in_ok-hin
 pub returns-clause-setting : goal.returns-clause-setting
 returns-clause-setting c = λ s e b.
     let p = setting_parts c.args.opened c.args.mode s e in
-    let h : c.in-Some.hinter ≡ s.machine = cc (c.in-Some.is, c.in_ok-hinter.ensures.taken s.machine p.machine b) in
-    rw (c.with.ensures, h) (ap Some p.setting)
+    let h : c.in-Some.hinter ≡ s.machine =
+    cc (c.in-Some.is, c.in_ok-hinter.ensures.taken s.machine c.args.mode.careful p.machine b) in
+    rw (c.with.ensures, c.of-basis.ensures, h) (ap Some p.setting)

@@ -4,7 +4,7 @@ use Rattle.mkstrike_c.proofs.block.words_for.Goals as goal
 
 pub returns-in_default-clause-taken : goal.returns-in_default-clause-taken
 returns-in_default-clause-taken c = λ b. let a = c.args.by.now.at in
-    absurd (words_there a.font.now a.face a.ppem (mode_of a.mode).hinting c.args.by.now.block.now b
+    absurd (words_there a.font.now a.face a.ppem (mode_of a.mode) c.args.by.now.block.now b
     (rw c.mode_of-hinting.ensures at c.in_default.ensures))
 
 pub returns-clause-words : goal.returns-clause-words

@@ -25,8 +25,8 @@ returns-clause-drawn c b done =
     let wanted : Wanted =
     record { packed = c.is_packed.result; entries = length c.args.glyphs.now; pixels = length c.args.pixels.now } in
     let setting = setting_for file a.ppem c.args.chars.now how in
-    let words : AreWordsOf file a.ppem how.hinting c.in-Some.words.now =
-    c.in-Some.ensures.words a.font.now a.face a.ppem how.hinting b in
+    let words : AreWordsOf file a.ppem how c.in-Some.words.now =
+    c.in-Some.ensures.words a.font.now a.face a.ppem how b in
     rw c.is_packed.ensures at (all_drawn wanted setting c.args.chars.now
     c.in-Some-gathered_by.found c.args.glyphs.now c.tell_all.new.glyphs c.args.pixels.now c.tell_all.new.pixels c.tell_all.new.drawn
     c.args.refused.now c.tell_all.new.refused c.tell_all.result refl refl c.tell_all.auto.glyphs c.tell_all.auto.pixels

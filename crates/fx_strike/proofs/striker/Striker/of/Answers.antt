@@ -29,4 +29,4 @@ returns-in_err-hinter-clause-late g c m = is_ok _ _ (sym c.in_ok-opened.was)
 
 pub returns-clause-setting : goal.returns-clause-setting
 unfolding setting_in setting_after
-returns-clause-setting g c = rw (c.in_ok-opened.was, c.in_ok-hinter.ensures, c.with.ensures)
+returns-clause-setting g c = rw (c.in_ok-opened.was, c.in_ok-hinter.ensures, c.with.ensures, c.of-basis.ensures)

@@ -1,0 +1,48 @@
+//! The work of drawing small shapes, by hand.
+use crate::contours::{on, outline};
+use fx_outline::OutlinePoint;
+use fx_raster::{Closing, RasterScratch, Rows, Rule, Shape};
+use std::alloc::Global;
+use std::test::Fail;
+
+/// The work of a contour's shape by a rule, if it is no more than `most`.
+fn work_of(
+    alloc: Global,
+    points: &[OutlinePoint; 4],
+    rule: Rule,
+    most: usize,
+) -> Result<Option<usize>, Fail> {
+    let shape = Shape::of(outline(alloc, points, &[3])?, rule)?;
+    let mut scratch = RasterScratch::new(alloc);
+    Ok(shape.work_within(alloc, &Rows, &mut scratch, most)?)
+}
+
+/// Whether a contour's shape has this work by a rule: it is within a limit of so much, and not within one less.
+fn takes(alloc: Global, points: &[OutlinePoint; 4], rule: Rule, work: usize) -> Result<bool, Fail> {
+    let here = work_of(alloc, points, rule, work)?;
+    let less = work_of(alloc, points, rule, work.saturating_sub(1))?;
+    Ok(here == Some(work) && less == None)
+}
+
+/// A triangle of two pixels each way, its level side in two pieces. Each of these takes 1, a row and two columns; the slanted side
+/// 1, three rows and three columns; the upright side 1, three rows and a column. There is no gap: the sides pass between centres
+/// that the triangle covers.
+#[test]
+fn triangle(rt: HostRuntime) -> Result<(), Fail> {
+    let points = [on(0, 0), on(64, 0), on(128, 0), on(0, 128)];
+    assert!(rt; takes(rt.alloc(), &points, Rule::Centres, 12)?);
+    assert!(rt; takes(rt.alloc(), &points, Rule::Bridged(Closing::Lower), 20)?);
+    assert!(rt; takes(rt.alloc(), &points, Rule::Bridged(Closing::Nearer), 20)?);
+    Ok(())
+}
+
+/// A stroke of 10/64 pixel between two centres, a pixel high. Each upright side takes 1, two rows and a column, each level one 1, a
+/// row and a column. The gap in its row takes 1 and the two upright sides: the level ones lie below and above its row.
+#[test]
+fn stroke(rt: HostRuntime) -> Result<(), Fail> {
+    let points = [on(70, 0), on(80, 0), on(80, 64), on(70, 64)];
+    assert!(rt; takes(rt.alloc(), &points, Rule::Centres, 10)?);
+    assert!(rt; takes(rt.alloc(), &points, Rule::Bridged(Closing::Lower), 14)?);
+    assert!(rt; takes(rt.alloc(), &points, Rule::Bridged(Closing::Nearer), 17)?);
+    Ok(())
+}
