@@ -12,7 +12,7 @@ import re
 from prebuilt import libraries_of_crates, structs_of_header
 
 # What is left of older times: how many findings of a rule there may be. A number here only ever goes down.
-LEFT = {"lemmas_named_once": 1, "twice": 6}  # four of these: one sweep for fx_zone and fx_moves is due
+LEFT = {"lemmas_named_once": 1, "twice": 2}
 
 # The crates below `fx_raster` and the types by which they find pixels: `fx_strike` and `fx_views` name none of them.
 RASTER = re.compile(r"\b(fx_winding|fx_rows|fx_dropout|fx_contour|Pieces|Noted|Tally)\b")

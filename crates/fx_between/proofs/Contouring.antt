@@ -18,7 +18,8 @@ next_first ends k first e =
 module _ {P : Type 0} (is_named : P → Bool) (between : P → P → P → P) where
   contours_next : (ends : List ℕ) (points : List P) (k d : ℕ) → k < length ends
       → contours_filled is_named between ends (k + 1) points
-      ≡ part_filled is_named between (Some (first_of ends k, suc (get_or ends k d))) (contours_filled is_named between ends k points)
+      ≡ part_filled is_named between (Some (first_of ends k, suc (get_or ends k d)))
+      (contours_filled is_named between ends k points)
   unfolding contours_filled
   contours_next ends points k d h =
       let e : k + 1 ≡ suc k = omega arith in

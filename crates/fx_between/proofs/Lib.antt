@@ -1,3 +1,4 @@
+pub mod Laying
 pub mod Named
 pub mod Sweeping
 pub mod Contouring

@@ -50,7 +50,8 @@ module _ {P : Type 0} (is_named : P → Bool) where
   unfolding first_named
   none_in_nothing = refl
 
-  pub first_of_both : (xs ys : List P) → first_named is_named (xs ++ ys) ≡ or_else (first_named is_named xs) (first_named is_named ys)
+  pub first_of_both : (xs ys : List P)
+      → first_named is_named (xs ++ ys) ≡ or_else (first_named is_named xs) (first_named is_named ys)
   unfolding or_else
   first_of_both [] ys = rw none_in_nothing refl
   first_of_both (x ∷ xs) ys = by_name (is_named x)

@@ -102,20 +102,20 @@ module _ {P : Type 0} (is_named : P → Bool) (between : P → P → P → P) wh
       ∙ ap (λ p. swept p last xs) (ap (λ n. get_or xs n first) (sym r) ∙ sym g)
 
   -- one without stays
-  each_kept : (behind ahead : List P) → first_named is_named behind ≡ None → first_named is_named ahead ≡ None
+  none_zipped : (behind ahead : List P) → first_named is_named behind ≡ None → first_named is_named ahead ≡ None
       → zipped behind ahead ≡ ahead
   unfolding zipped
-  each_kept behind [] h g = refl
-  each_kept behind (p ∷ ps) h g = by_name (is_named p)
+  none_zipped behind [] h g = refl
+  none_zipped behind (p ∷ ps) h g = by_name (is_named p)
       (λ t. some_or_none p (sym (hit is_named p ps t) ∙ g))
       (λ t. let e = sym (missed is_named p ps t) ∙ g in
       let b : first_named is_named (behind ++ reverse ps) ≡ None = first_of_both is_named behind (reverse ps)
       ∙ rw (h, none_backward is_named ps e) (or_none None) in
-      rw (t, b) (ap (λ l. p ∷ l) (each_kept (p ∷ behind) ps (missed is_named p behind t ∙ h) e)))
+      rw (t, b) (ap (λ l. p ∷ l) (none_zipped (p ∷ behind) ps (missed is_named p behind t ∙ h) e)))
 
-  pub contour_kept : (xs : List P) → None ≡ first_named is_named (reverse xs) → contour_filled is_named between xs ≡ xs
+  pub contour_stays : (xs : List P) → None ≡ first_named is_named (reverse xs) → contour_filled is_named between xs ≡ xs
   unfolding contour_filled
-  contour_kept xs h = each_zipped [] xs ∙ each_kept [] xs (none_in_nothing is_named)
+  contour_stays xs h = each_zipped [] xs ∙ none_zipped [] xs (none_in_nothing is_named)
       (ap (first_named is_named) (sym (reverse-reverse xs)) ∙ none_backward is_named (reverse xs) (sym h))
 
   run_swept : (first before : P) (xs : List P) → swept first before xs
@@ -139,26 +139,26 @@ module _ {P : Type 0} (is_named : P → Bool) (between : P → P → P → P) wh
   abbrev pub swept_from : P → P → List P → ℕ → List P
   swept_from first last pts n = take n pts ++ swept first (point_before last n pts) (drop n pts)
 
-  -- a named point is passed
-  pub named_passed : (first last p d : P) (pts : List P) (n : ℕ) → n < length pts → p ≡ get_or pts n d → is_named p ≡ true
-      → swept_from first last pts (n + 1) ≡ swept_from first last pts n
-  named_passed first last p d pts n h g t =
+  -- what the whole contour becomes stays the same: as a named point is passed
+  pub named_passed : (whole : List P) (first last p d : P) (pts : List P) (n : ℕ) → n < length pts → p ≡ get_or pts n d
+      → is_named p ≡ true → whole ≡ swept_from first last pts n → whole ≡ swept_from first last pts (n + 1)
+  named_passed whole first last p d pts n h g t so =
       let s : n + 1 ≡ suc n = omega arith in
       let q : (e : P) → get_or pts n e ≡ p = λ e. get_or_default pts n e d h ∙ sym g in
       let rest = drop (suc n) pts in
       let split : drop n pts ≡ p ∷ rest = drop-cons pts n p h ∙ ap (λ r. r ∷ rest) (q p) in
-      rw (s, q last) (ap (λ l. l ++ swept first p rest) (take-suc pts n p h)
+      so ∙ sym (rw (s, q last) (ap (λ l. l ++ swept first p rest) (take-suc pts n p h)
       ∙ append_assoc (take n pts) (get_or pts n p ∷ []) (swept first p rest)
       ∙ ap (λ l. take n pts ++ l) (ap (λ r. r ∷ swept first p rest) (q p)
-      ∙ sym (ap (swept first (point_before last n pts)) split ∙ swept_at first (point_before last n pts) p rest t)))
+      ∙ sym (ap (swept first (point_before last n pts)) split ∙ swept_at first (point_before last n pts) p rest t))))
 
-  -- a run is filled
-  pub run_passed : (first last before after : P) (pts ys : List P) (start end m : ℕ)
+  -- as a run is filled
+  pub run_passed : (whole : List P) (first last before after : P) (pts ys : List P) (start end m : ℕ)
       → start ≤ length pts → end ≡ start + unnamed_run is_named (drop start pts) → m ≡ end - start
       → before ≡ point_before last start pts → after ≡ get_or pts end first
       → ys ≡ map (between before after) (take m (drop start pts))
-      → swept_from first last (put_mid start m pts ys) end ≡ swept_from first last pts start
-  run_passed first last before after pts ys start end m w e n b g y =
+      → whole ≡ swept_from first last pts start → whole ≡ swept_from first last (put_mid start m pts ys) end
+  run_passed whole first last before after pts ys start end m w e n b g y so =
       let xs = drop start pts in
       let k = unnamed_run is_named xs in
       let done = take start pts ++ ys in
@@ -174,15 +174,16 @@ module _ {P : Type 0} (is_named : P → Bool) (between : P → P → P → P) wh
       let at : end ≡ length done = omega (arith, e, long, length-append (take start pts) ys, length-take-le start pts w) in
       let front : take end (done ++ drop k xs) ≡ done = rw at (take-append_seam done (drop k xs)) in
       let back : drop end (done ++ drop k xs) ≡ drop k xs = rw at (drop-append_seam done (drop k xs)) in
-      ap (λ l. take end l ++ swept first passed (drop end l)) split
+      so ∙ sym (ap (λ l. take end l ++ swept first passed (drop end l)) split
       ∙ (λ i. (front i) ++ swept first passed (back i))
       ∙ ap (λ l. done ++ l) (swept_after_run first passed before xs)
       ∙ append_assoc (take start pts) ys (swept first before (drop k xs))
       ∙ ap (λ l. take start pts ++ l)
       (ap (λ l. l ++ swept first before (drop k xs)) run ∙ sym (run_swept first before xs))
-      ∙ ap (λ p. take start pts ++ swept first p xs) b
+      ∙ ap (λ p. take start pts ++ swept first p xs) b)
 
-  -- all points are passed
-  pub all_passed : (first last : P) (pts : List P) (n : ℕ) → length pts ≤ n → swept_from first last pts n ≡ pts
+  -- and at the end, when all points are passed
+  pub all_passed : (whole : List P) (first last : P) (pts : List P) (n : ℕ) → length pts ≤ n
+      → whole ≡ swept_from first last pts n → pts ≡ whole
   unfolding swept
-  all_passed first last pts n h = rw (take_all n pts h, drop_all n pts h) (append-nil pts)
+  all_passed whole first last pts n h so = sym (so ∙ rw (take_all n pts h, drop_all n pts h) (append-nil pts))

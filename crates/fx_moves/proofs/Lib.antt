@@ -1,5 +1,3 @@
-pub mod Contouring
-pub mod Laying
 pub mod Given
 pub mod Sums
 pub mod Counting

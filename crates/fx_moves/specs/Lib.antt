@@ -1,5 +1,4 @@
 pub mod Inferred
-pub mod Contours
 pub mod Giving
 pub mod Adding
 pub mod Moves

@@ -7,7 +7,8 @@ use Rattle.fx_tuples.specs.declared.fault.TupleFault.{TupleFault}
 use Rattle.fx_moves.specs.declared.point.GivenPoint.{GivenPoint}
 use Rattle.fx_tuples.specs.Deltas.{deltas_in}
 use Rattle.fx_moves.specs.Giving.{all_given, cleared}
-use Rattle.fx_moves.specs.Contours.{contours_filled}
+use Rattle.fx_between.specs.Contours.{contours_filled}
+use Rattle.fx_moves.specs.Inferred.{is_named, between}
 use Rattle.fx_moves.specs.Adding.{added}
 use Rattle.fx_tuples.specs.Tuples.{PointNumbersView, TupleView, TupleSettingView, TupleCursorView, next_tuple}
 
@@ -20,7 +21,7 @@ count_up k (suc n) = k ∷ count_up (suc k) n
 unfoldable pub points_moved : List ℕ → PointNumbersView → List ℤ → List GivenPoint → List GivenPoint
 points_moved ends n ds points =
     if n.count == 0 then all_given (count_up 0 (length points)) ds (map cleared points)
-    else contours_filled ends (length ends) (all_given n.list ds (map cleared points))
+    else contours_filled is_named between ends (length ends) (all_given n.list ds (map cleared points))
 
 -- as many deltas as there are numbers, or points if it names all
 abbrev pub delta_count : PointNumbersView → List GivenPoint → ℕ

@@ -36,7 +36,7 @@ fn add_to(point: &mut GivenPoint, scalar: i64)
 }
 
 /// Adds to the sums of points how far a tuple moves them.
-#[tactic(auto, using(crate::proofs::Laying::more_written, crate::proofs::Sums::add_steps))]
+#[tactic(auto, using(fx_between::proofs::Laying::more_written, crate::proofs::Sums::add_steps))]
 pub fn add(points: &mut [GivenPoint], scalar: i64)
     requires scalar { unsigned_abs scalar ≤ 2 ^ 42 }
     requires room { AreWithin 32767 (sums points.old) }

@@ -17,7 +17,7 @@ fn clear_point(point: &mut GivenPoint)
 }
 
 /// Forgets what a tuple before gave.
-#[tactic(auto, using(crate::proofs::Laying::more_written))]
+#[tactic(auto, using(fx_between::proofs::Laying::more_written))]
 pub fn clear(points: &mut [GivenPoint])
     ensures { points.new ≡ map cleared points.old }
 {

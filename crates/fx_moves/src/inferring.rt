@@ -1,10 +1,12 @@
 //! The deltas of points that a tuple does not name.
 
-ghost use Rattle.std.specs.Prelude.{◌≡◌, ◌≢◌, ◌≤◌, ◌<◌, ◌^◌, pos, ◌<ℤ◌, ◌-ℤ◌, ◌*ℤ◌, ◌+ℤ◌, unsigned_abs};
+ghost use Rattle.std.specs.Prelude.{◌≡◌, ◌≢◌, ◌≤◌, ◌<◌, ◌^◌, pos, ◌<ℤ◌, ◌-ℤ◌, ◌*ℤ◌, ◌+ℤ◌, unsigned_abs, map};
 ghost use Rattle.fx_axes.specs.Rounding.{near_up_of};
-ghost use Rattle.fx_moves.specs.Inferred.{one, in_proportion_of, inferred_between, inferred_of};
+ghost use Rattle.fx_moves.specs.Inferred.{one, in_proportion_of, inferred_between, inferred_of, is_named, given, between};
 
+use crate::point::GivenPoint;
 use fx_axes::near_up;
+use fx_between::Rule;
 
 /// A point that a tuple names, along an axis: its coordinate and its delta.
 #[derive(Clone, Copy, Debug, PartialEq, Eq)]
@@ -117,5 +119,48 @@ pub fn inferred(x: i16, before: Named, after: Named) -> i128
         inferred_between(x, before, after)
     } else {
         inferred_between(x, after, before)
+    }
+}
+
+/// A point's coordinate and the delta that the tuple gives it.
+fn given(point: &GivenPoint) -> Named
+    ensures { result ≡ given point.now }
+{
+    Named {
+        at: point.at,
+        delta: point.delta,
+    }
+}
+
+/// Moves a point between two named ones.
+#[tactic(auto, unfolding(crate::specs::Inferred::between))]
+fn fill(point: &mut GivenPoint, before: &GivenPoint, after: &GivenPoint)
+    ensures { point.new ≡ between before.now after.now point.old }
+{
+    point.moved = inferred(point.at, given(before), given(after)) as i64;
+}
+
+/// The rule of points that a tuple names.
+pub struct Inferring;
+
+impl Rule for Inferring {
+    type Point = GivenPoint;
+
+    ghost is_named = { λ rule. is_named };
+
+    ghost between = { λ rule. between };
+
+    /// Whether a tuple names a point.
+    fn is_named(&self, point: &GivenPoint) -> bool {
+        point.named
+    }
+
+    /// Moves a run of points between two named ones.
+    #[tactic(auto, using(fx_between::proofs::Laying::more_written))]
+    fn fill_run(&self, points: &mut [GivenPoint], before: &GivenPoint, after: &GivenPoint) {
+        // The points that were seen are moved.
+        'run: for point in points.iter_mut() {
+            fill(point, before, after);
+        }
     }
 }

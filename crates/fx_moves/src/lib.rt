@@ -5,7 +5,6 @@
 #![tactic(auto)]
 
 mod adding;
-mod contours;
 mod folding;
 mod giving;
 mod inferring;

@@ -5,9 +5,10 @@ ghost use Rattle.std.specs.List.{All};
 ghost use Rattle.fx_moves.specs.Giving.{all_given};
 ghost use Rattle.fx_moves.specs.Moves.{count_up, points_moved, delta_count};
 
-use crate::contours::fill_contours;
 use crate::giving::{clear, give, give_one};
+use crate::inferring::Inferring;
 use crate::point::GivenPoint;
+use fx_between::fill_contours;
 use fx_tuples::{Deltas, PointNumbers};
 
 /// Gives each of the first points in order its delta.
@@ -59,6 +60,6 @@ pub fn move_points(
         give_all(points, deltas);
     } else {
         give(points, numbers.list(), deltas);
-        fill_contours(points, ends);
+        fill_contours(&Inferring, points, ends);
     }
 }

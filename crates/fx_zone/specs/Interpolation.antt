@@ -1,6 +1,6 @@
 -- Untouched points between touched ones (Apple TrueType Reference Manual, "IUP").
-use Rattle.std.specs.Prelude.{ℕ, zero, suc, ◌-◌, ℤ, ◌+ℤ◌, ◌-ℤ◌, ◌*ℤ◌, int_lt, int_le, Bool, if◌then◌else◌, List, [], ◌∷◌, ◌++◌}
-use Rattle.std.specs.Prelude.{length, reverse, take, drop, slice_index_or, Option, Some, None}
+use Rattle.std.specs.Prelude.{ℤ, ◌+ℤ◌, ◌-ℤ◌, ◌*ℤ◌, int_lt, int_le, Bool, if◌then◌else◌, length}
+use Rattle.fx_between.specs.Contours.{contours_filled}
 use Rattle.fx_fixed.specs.Numbers.{near_of, wrapped_of}
 use Rattle.fx_fixed.specs.Places.{coordinate_of}
 use Rattle.fx_fixed.specs.declared.places.Place.{Place}
@@ -8,7 +8,7 @@ use Rattle.fx_fixed.specs.declared.places.Axis.{Axis}
 use Rattle.fx_fixed.specs.declared.places.Axis.TheVariants.{X, Y}
 use Rattle.fx_zone.specs.declared.point.ZonePoint.{ZonePoint}
 use Rattle.fx_zone.specs.Points.{moved}
-use Rattle.fx_zone.specs.Figures.{Figure, contour_of}
+use Rattle.fx_zone.specs.Figures.{Figure}
 
 -- a place with another coordinate along an axis
 abbrev pub with_coordinate : Axis → ℤ → Place → Place
@@ -56,55 +56,7 @@ unfoldable pub between : Axis → ZonePoint → ZonePoint → ZonePoint → Zone
 between axis before after p =
     if int_lt (org axis after) (org axis before) then placed axis after before p else placed axis before after p
 
--- the first touched point of a list
-unfoldable pub first_touched : Axis → List ZonePoint → Option ZonePoint
-first_touched axis [] = None
-first_touched axis (p ∷ ps) = if is_touched axis p then Some p else first_touched axis ps
-
--- the number of untouched points before it; of all points if none is touched
-unfoldable pub untouched_run : Axis → List ZonePoint → ℕ
-untouched_run axis [] = 0
-untouched_run axis (p ∷ ps) = if is_touched axis p then 0 else suc (untouched_run axis ps)
-
--- the point before the one of a number; before the first one another
-abbrev pub point_before : ZonePoint → ℕ → List ZonePoint → ZonePoint
-point_before last zero points = last
-point_before last (suc n) points = slice_index_or points n last
-
--- a point between two touched ones, if there are any
-abbrev pub between_any : Axis → Option ZonePoint → Option ZonePoint → ZonePoint → ZonePoint
-between_any axis (Some before) (Some after) p = between axis before after p
-between_any axis (Some before) None p = p
-between_any axis None after p = p
-
--- a point of a contour, with the points before it and those after it. A contour is a cycle: backward from the point come
--- those before it and then those after it, both the last one first; forward those after it and then those before it
-abbrev pub interpolated : Axis → List ZonePoint → ZonePoint → List ZonePoint → ZonePoint
-interpolated axis before p after =
-    if is_touched axis p then p
-    else between_any axis (first_touched axis (reverse before ++ reverse after)) (first_touched axis (after ++ before)) p
-
--- each point of the rest of a contour
-unfoldable pub each_interpolated : Axis → List ZonePoint → List ZonePoint → List ZonePoint
-each_interpolated axis before [] = []
-each_interpolated axis before (p ∷ after) = interpolated axis before p after ∷ each_interpolated axis (before ++ p ∷ []) after
-
--- a contour
-unfoldable pub contour_interpolated : Axis → List ZonePoint → List ZonePoint
-contour_interpolated axis points = each_interpolated axis [] points
-
--- a contour within a zone's points, by the number of its first point and the one after its last
-abbrev pub part_interpolated : Axis → Option (ℕ × ℕ) → List ZonePoint → List ZonePoint
-part_interpolated axis (Some c) points =
-    take c.0 points ++ (contour_interpolated axis (take (c.1 - c.0) (drop c.0 points)) ++ drop (c.1 - c.0) (drop c.0 points))
-part_interpolated axis None points = points
-
--- the first n contours, each by itself; points that are in none of them stay
-unfoldable pub contours_interpolated : Axis → List ℕ → ℕ → List ZonePoint → List ZonePoint
-contours_interpolated axis ends zero points = points
-contours_interpolated axis ends (suc n) points =
-    part_interpolated axis (contour_of ends n) (contours_interpolated axis ends n points)
-
 -- all contours of a figure
 unfoldable pub figure_interpolated : Axis → Figure → Figure
-figure_interpolated axis f = record f { points = contours_interpolated axis f.ends (length f.ends) f.points }
+figure_interpolated axis f =
+    record f { points = contours_filled (is_touched axis) (between axis) f.ends (length f.ends) f.points }

@@ -1,23 +1,14 @@
 //! Untouched points between touched ones.
 
-ghost use Rattle.std.specs.Prelude.{◌≡◌, ◌≢◌, ◌+◌, ◌*◌, ◌≤◌, ◌<◌, ◌^◌, pos, ◌+ℤ◌, ◌-ℤ◌, ◌*ℤ◌, ◌<ℤ◌, unsigned_abs, length, drop, map, reverse, slice_index_or};
+ghost use Rattle.std.specs.Prelude.{◌≡◌, ◌≢◌, ◌+◌, ◌*◌, ◌≤◌, ◌<◌, ◌^◌, pos, ◌+ℤ◌, ◌-ℤ◌, ◌*ℤ◌, ◌<ℤ◌, unsigned_abs, length, map};
 ghost use Rattle.std.specs.List.{All};
+ghost use Rattle.fx_between.specs.Contours.{contours_filled};
 ghost use Rattle.fx_fixed.specs.Numbers.{wrapped_of, near_of, near_size};
-ghost use Rattle.fx_zone.specs.Interpolation.{is_touched, moved_with, in_proportion, coordinate_between, placed_along, placed, between, first_touched, untouched_run, point_before, contour_interpolated, contours_interpolated};
+ghost use Rattle.fx_zone.specs.Interpolation.{is_touched, moved_with, in_proportion, coordinate_between, placed_along, placed, between};
 
 use crate::point::ZonePoint;
+use fx_between::{Rule, fill_contours};
 use fx_fixed::{Axis, F26, near, near_quotient, product, w32, wide_product};
-
-/// Whether a point is touched along an axis.
-#[inline(always)]
-fn is_touched(point: &ZonePoint, axis: Axis) -> bool
-    ensures { result ≡ is_touched axis point.now }
-{
-    match axis {
-        Axis::X => point.touched_x,
-        Axis::Y => point.touched_y,
-    }
-}
 
 /// An exact difference.
 fn difference(a: F26, b: F26) -> i64
@@ -143,7 +134,7 @@ fn place(axis: Axis, lo_org: F26, lo_cur: F26, hi_org: F26, hi_cur: F26, point: 
 
 /// Interpolates a run of untouched points between two others, of which `lo` is the lower.
 #[inline(always)]
-#[tactic(auto, using(crate::proofs::Laying::more_written))]
+#[tactic(auto, using(fx_between::proofs::Laying::more_written))]
 fn place_run(
     points: &mut [ZonePoint],
     axis: Axis,
@@ -194,146 +185,47 @@ fn place_between(points: &mut [ZonePoint], axis: Axis, lo: &ZonePoint, hi: &Zone
     }
 }
 
-/// Interpolates a run between the touched points before and after it.
-#[inline(always)]
-#[tactic(auto, using(crate::proofs::Interpolating::between_lower, crate::proofs::Interpolating::between_higher))]
-fn interpolate_run(points: &mut [ZonePoint], axis: Axis, before: &ZonePoint, after: &ZonePoint)
-    ensures { points.new ≡ map (between axis before.now after.now) points.old }
-{
-    if after.org.along(axis).0 < before.org.along(axis).0 {
-        place_between(points, axis, after, before);
-    } else {
-        place_between(points, axis, before, after);
-    }
+/// The rule of points that are touched along an axis.
+struct Touched {
+    axis: Axis,
 }
 
-/// The number of untouched points before the first touched one; of all points if none is.
-#[inline(always)]
-#[tactic(auto, using(crate::proofs::Interpolating::run_zero, crate::proofs::Interpolating::run_next, crate::proofs::Interpolating::run_over))]
-fn untouched_run(points: &[ZonePoint], axis: Axis) -> usize
-    ensures { result ≡ untouched_run axis points.now }
-{
-    // The points that were seen are untouched.
-    'run: for end in 0..points.len() {
-        if is_touched(&points[end], axis) {
-            return end;
+impl Rule for Touched {
+    type Point = ZonePoint;
+
+    ghost is_named = { λ rule. is_touched rule.axis };
+
+    ghost between = { λ rule. between rule.axis };
+
+    /// Whether a point is touched.
+    #[inline(always)]
+    fn is_named(&self, point: &ZonePoint) -> bool {
+        match self.axis {
+            Axis::X => point.touched_x,
+            Axis::Y => point.touched_y,
         }
     }
-    points.len()
-}
 
-/// The number of the first touched point from a number on; that of all points if there is none.
-#[inline(always)]
-#[tactic(auto, using(crate::proofs::Interpolating::run_fits))]
-fn run_end(points: &[ZonePoint], start: usize, axis: Axis) -> usize
-    requires { start ≤ length points.now }
-    ensures value { result ≡ start + untouched_run axis (drop start points.now) }
-    ensures within { result ≤ length points.now }
-{
-    start + untouched_run(&points[start..], axis)
-}
-
-/// The point of a number.
-fn numbered(points: &[ZonePoint], number: usize) -> ZonePoint
-    requires { number < length points.now }
-    ensures { result ≡ slice_index_or points.now number result }
-{
-    points[number]
-}
-
-/// The point of a number; another one if it is outside.
-#[inline(always)]
-fn numbered_or(points: &[ZonePoint], number: usize, other: &ZonePoint) -> ZonePoint
-    ensures { result ≡ slice_index_or points.now number other.now }
-{
-    if number < points.len() {
-        numbered(points, number)
-    } else {
-        *other
-    }
-}
-
-/// The point before the one of a number; before the first the contour's last touched one.
-#[inline(always)]
-fn point_before(points: &[ZonePoint], number: usize, last: &ZonePoint) -> ZonePoint
-    requires { number ≤ length points.now }
-    ensures { result ≡ point_before last.now number points.now }
-{
-    if number == 0 {
-        *last
-    } else {
-        numbered(points, number - 1)
-    }
-}
-
-/// The last touched point.
-#[inline(always)]
-#[tactic(auto, using(crate::proofs::Interpolating::last_here, crate::proofs::Interpolating::last_before, crate::proofs::Interpolating::last_none))]
-fn last_touched(points: &[ZonePoint], axis: Axis) -> Option<ZonePoint>
-    ensures { result ≡ first_touched axis (reverse points.now) }
-{
-    let mut left = points.len();
-    // The points from `left` on are untouched.
-    'last: while left > 0 {
-        left -= 1;
-        let point = numbered(points, left);
-        if is_touched(&point, axis) {
-            return Some(point);
-        }
-    }
-    None
-}
-
-/// Interpolates the untouched points of a contour.
-#[inline(always)]
-fn interpolate_contour(points: &mut [ZonePoint], axis: Axis)
-    ensures { points.new ≡ contour_interpolated axis points.old }
-{
-    let Some(last) = last_touched(points, axis) else {
-        return;
-    };
-    let first = numbered(points, untouched_run(points, axis));
-    let mut start = 0;
-    // The points before `start` are done.
-    'points: while start < points.len() {
-        if is_touched(&points[start], axis) {
-            start += 1;
+    /// Interpolates a run between the touched points before and after it.
+    #[inline(always)]
+    #[tactic(auto, using(crate::proofs::Interpolating::between_lower, crate::proofs::Interpolating::between_higher))]
+    fn fill_run(&self, points: &mut [ZonePoint], before: &ZonePoint, after: &ZonePoint) {
+        if after.org.along(self.axis).0 < before.org.along(self.axis).0 {
+            place_between(points, self.axis, after, before);
         } else {
-            let end = run_end(points, start + 1, axis);
-            let before = point_before(points, start, &last);
-            let after = numbered_or(points, end, &first);
-            interpolate_run(&mut points[start..end], axis, &before, &after);
-            start = end;
+            place_between(points, self.axis, before, after);
         }
     }
 }
 
 /// Interpolates the untouched points of each contour, by the numbers of their last points. It is compiled once for each axis.
-#[tactic(auto, using(crate::proofs::Interpolating::contours_long))]
 pub fn interpolate_contours(points: &mut [ZonePoint], ends: &[u16], axis: Axis)
     requires { All (λ e. e < length points.old) ends.now }
-    ensures value { points.new ≡ contours_interpolated axis ends.now (length ends.now) points.old }
+    ensures value { points.new ≡ contours_filled (is_touched axis) (between axis) ends.now (length ends.now) points.old }
     ensures long { length points.new ≡ length points.old }
 {
     match axis {
-        Axis::X => interpolate_each(points, ends, Axis::X),
-        Axis::Y => interpolate_each(points, ends, Axis::Y),
-    }
-}
-
-/// The same along an axis that is known where it is called.
-#[inline(always)]
-fn interpolate_each(points: &mut [ZonePoint], ends: &[u16], axis: Axis)
-    requires { All (λ e. e < length points.old) ends.now }
-    ensures { points.new ≡ contours_interpolated axis ends.now (length ends.now) points.old }
-{
-    let mut first = 0;
-    // The contours before this one are done, and `first` is where it begins.
-    'contours: for end in ends.iter() {
-        let past = usize::from(*end) + 1;
-        if first < past {
-            interpolate_contour(&mut points[first..past], axis);
-        }
-        first = past;
+        Axis::X => fill_contours(&Touched { axis: Axis::X }, points, ends),
+        Axis::Y => fill_contours(&Touched { axis: Axis::Y }, points, ends),
     }
 }

@@ -50,7 +50,7 @@ pub fn curve_range(points: &mut [ZonePoint], first: usize, past: usize, on: bool
 }
 
 /// Shifts all points from their current places, where they rest untouched.
-#[tactic(auto, using(crate::proofs::Laying::more_written))]
+#[tactic(auto, using(fx_between::proofs::Laying::more_written))]
 pub fn rest_points(points: &mut [ZonePoint], by: &Place)
     ensures { points.new ≡ map (rested by.now) points.old }
 {

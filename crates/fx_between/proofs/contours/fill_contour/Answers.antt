@@ -1,11 +1,11 @@
 use Rattle.std.proofs.Common.{arith, sym, ◌∙◌, refl}
 use Rattle.fx_between.proofs.Named.{run_ends, run_next}
-use Rattle.fx_between.proofs.Sweeping.{contour_kept, contour_swept, named_passed, run_passed, passed_long, all_passed}
+use Rattle.fx_between.proofs.Sweeping.{contour_stays, contour_swept, named_passed, run_passed, passed_long, all_passed}
 use Rattle.fx_between.proofs.contours.fill_contour.Goals as goal
 
 pub returns-in_default : goal.returns-in_default
 returns-in_default g c =
-    sym (contour_kept (g.R.Rule.is_named c.args.rule.now) (g.R.Rule.between c.args.rule.now) c.args.points.now
+    sym (contour_stays (g.R.Rule.is_named c.args.rule.now) (g.R.Rule.between c.args.rule.now) c.args.points.now
     (sym c.in_default.is ∙ c.last_named.ensures))
 
 pub numbered-first-requires : goal.numbered-first-requires
@@ -26,10 +26,9 @@ points-init g c =
 
 pub points-preserved-then-is_named : goal.points-preserved-then-is_named
 points-preserved-then-is_named g c = record {
-  answer = c.points.invariant.answer
-      ∙ sym (named_passed (g.R.Rule.is_named c.args.rule.now) (g.R.Rule.between c.args.rule.now) _ c.in-Some.last _
+  answer = named_passed (g.R.Rule.is_named c.args.rule.now) (g.R.Rule.between c.args.rule.now) _ _ c.in-Some.last _
       c.index-points-start.result c.points.points c.points.start c.points-test.true refl
-      (sym c.is_named.ensures ∙ c.if-is_named.true));
+      (sym c.is_named.ensures ∙ c.if-is_named.true) c.points.invariant.answer;
   within = omega (arith, c.points-test.true);
 }
 
@@ -42,10 +41,9 @@ points-preserved g c =
     let next = run_next named c.points.points c.points.start c.index-points-start.result _ c.points-test.true refl
     (sym c.is_named.ensures ∙ c.if-is_named.false) in
     record {
-      answer = i.answer
-          ∙ sym (run_passed named (g.R.Rule.between c.args.rule.now) _ c.in-Some.last _ _ c.points.points c.fill_run.new.points
+      answer = run_passed named (g.R.Rule.between c.args.rule.now) _ _ c.in-Some.last _ _ c.points.points c.fill_run.new.points
           c.points.start c.run_end-end.result _ i.within (omega (arith, value, next)) refl c.point_before-before.ensures
-          c.numbered_or-after.ensures c.fill_run.ensures);
+          c.numbered_or-after.ensures c.fill_run.ensures i.answer;
       within = omega (
         arith,
         fit,
@@ -64,6 +62,5 @@ points-smaller g c =
 
 pub returns : goal.returns
 returns g c =
-    sym (c.points.invariant.answer
-    ∙ all_passed (g.R.Rule.is_named c.args.rule.now) (g.R.Rule.between c.args.rule.now) _ c.in-Some.last c.points.points
-    c.points.start c.points-test.false)
+    all_passed (g.R.Rule.is_named c.args.rule.now) (g.R.Rule.between c.args.rule.now) _ _ c.in-Some.last c.points.points
+    c.points.start c.points-test.false c.points.invariant.answer

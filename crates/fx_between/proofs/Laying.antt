@@ -1,5 +1,5 @@
--- A loop that writes each element of a list in turn, as `more_written` says.
--- For the loops of `clear`, `add` and `fill_run`.
+-- A loop that writes each element of a list in turn maps the list: `more_written`.
+-- For the runs that rules fill, and other loops over points in the crates above.
 use Rattle.std.proofs.Common.{◌≡◌, ℕ, zero, suc, ◌+◌, ◌<◌, List, [], ◌∷◌, ◌++◌, length, take, drop, map, set, get_or, refl, ap}
 use Rattle.std.proofs.Common.{add-one, arith}
 

@@ -1,6 +1,6 @@
 use Rattle.std.proofs.Common.{◌≡◌, ◌++◌, take, drop, map}
-use Rattle.fx_moves.specs.Contours.{between}
-use Rattle.fx_moves.proofs.contours.fill_run.Given as goal
+use Rattle.fx_moves.specs.Inferred.{between}
+use Rattle.fx_moves.proofs.inferring.InferringRule.fill_run.Given as goal
 
 abbrev pub invariant-run : goal.invariant-run
 invariant-run l =
