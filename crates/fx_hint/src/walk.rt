@@ -95,7 +95,13 @@ impl<'w, 'a> Walk<'w, 'a> {
         ensures records { OnOk result (count.new.records ≡ count.old.records) }
         ensures points { OnOk result (CountsPoints count.old made.new count.new) }
     {
-        fill_zone(self.alloc, &mut made.zone, simple, self.scale)?;
+        fill_zone(
+            self.alloc,
+            &mut made.zone,
+            simple,
+            simple.points(),
+            self.scale,
+        )?;
         let points = made.zone.len();
         count.more_points(self.root, points)?;
         made.phantoms = PhantomPoints::of_glyph(self.scale, hinted, simple.x_min(), metrics);

@@ -1,5 +1,5 @@
 -- Phantom points (Apple TrueType Reference Manual, "Instructing TrueType Glyphs": phantom points; OpenType, `glyf`).
-use Rattle.std.specs.Prelude.{ℤ, pos, ◌*ℤ◌, ◌-ℤ◌, List, [], ◌∷◌, Bool, false, if◌then◌else◌}
+use Rattle.std.specs.Prelude.{ℕ, ℤ, pos, ◌*ℤ◌, ◌-ℤ◌, List, [], ◌∷◌, Bool, false, if◌then◌else◌}
 use Rattle.fx_fixed.specs.Numbers.{near_of, wrapped_of, sum_of}
 use Rattle.fx_fixed.specs.Places.{place_on}
 use Rattle.fx_fixed.specs.declared.places.Axis.{Axis}
@@ -25,14 +25,18 @@ phantom_on axis hinted z = record {
   touched_y = false;
 }
 
--- the four phantom points of a glyph: its origin, its advance, the font's ascender and descender
-unfoldable pub phantoms_of : Scale → Bool → ℤ → Metrics → PhantomPoints
-phantoms_of s hinted x_min m = record {
-  origin = phantom_on X hinted (scaled_by s (x_min -ℤ m.lsb));
-  advance = phantom_on X hinted (sum_of (scaled_by s (x_min -ℤ m.lsb)) (scaled_by s (pos m.advance_width)));
+-- the four phantom points: a glyph's origin and its advance, the font's ascender and descender
+unfoldable pub phantoms_from : Scale → Bool → ℤ → ℕ → PhantomPoints
+phantoms_from s hinted origin advance = record {
+  origin = phantom_on X hinted (scaled_by s origin);
+  advance = phantom_on X hinted (sum_of (scaled_by s origin) (scaled_by s (pos advance)));
   ascender = phantom_on Y hinted (scaled_by s s.ascender);
   descender = phantom_on Y hinted (scaled_by s s.descender);
 }
+
+-- those of a glyph by its xMin and metrics: its left side lies at its bearing
+unfoldable pub phantoms_of : Scale → Bool → ℤ → Metrics → PhantomPoints
+phantoms_of s hinted x_min m = phantoms_from s hinted (x_min -ℤ m.lsb) m.advance_width
 
 -- the four in their order after a glyph's points
 abbrev pub in_order : PhantomPoints → List ZonePoint

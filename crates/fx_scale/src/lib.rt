@@ -8,9 +8,11 @@ mod cvt;
 mod factor;
 mod phantom;
 mod scale;
+mod source;
 mod zone;
 
 pub use cvt::cvt_of;
 pub use phantom::{PhantomPoints, fitted, phantoms};
 pub use scale::{Scale, scaled};
+pub use source::PointSource;
 pub use zone::fill_zone;

@@ -2,7 +2,7 @@
 
 ghost use Rattle.std.specs.Prelude.{◌≡◌, ◌<◌, ◌-ℤ◌, ◌*ℤ◌, ◌≤◌, pos, unsigned_abs};
 ghost use Rattle.fx_fixed.specs.Numbers.{wrapped_of, near_of};
-ghost use Rattle.fx_scale.specs.Phantoms.{phantom_on, phantoms_of, fitted, in_order, untouched_points};
+ghost use Rattle.fx_scale.specs.Phantoms.{phantom_on, phantoms_from, phantoms_of, fitted, in_order, untouched_points};
 
 use crate::scale::Scale;
 use fx_fixed::{Axis, F26, Place, near_64, w32};
@@ -19,15 +19,16 @@ pub struct PhantomPoints {
 }
 
 impl PhantomPoints {
-    /// The phantom points of a glyph, from the xMin of its header and its metrics. With hinting on the current x of the first
-    /// two and the current y of the last two are at whole pixels.
-    #[tactic(auto, unfolding(crate::specs::Phantoms::phantoms_of))]
-    pub fn of_glyph(scale: &Scale, hinted: bool, x_min: i16, metrics: Metrics) -> PhantomPoints
-        ensures { result ≡ phantoms_of scale.now hinted x_min metrics }
+    /// The phantom points of a glyph, from its origin, which is the x of its left side that its own bearing gives, and its advance,
+    /// in FUnits. With hinting on the current x of the first two and the current y of the last two are at whole pixels.
+    #[tactic(auto, unfolding(crate::specs::Phantoms::phantoms_from))]
+    pub fn of_bearings(scale: &Scale, hinted: bool, origin: i32, advance: u16) -> PhantomPoints
+        requires { unsigned_abs origin ≤ 65535 }
+        ensures { result ≡ phantoms_from scale.now hinted origin advance }
     {
         let factor = scale.factor();
-        let origin = factor.apply(margin(x_min, metrics.lsb));
-        let advance = origin.plus(factor.apply(i32::from(metrics.advance_width)));
+        let origin = factor.apply(origin);
+        let advance = origin.plus(factor.apply(i32::from(advance)));
         let ascender = factor.apply(i32::from(scale.ascender));
         let descender = factor.apply(i32::from(scale.descender));
         PhantomPoints {
@@ -36,6 +37,15 @@ impl PhantomPoints {
             ascender: phantom(Axis::Y, hinted, ascender),
             descender: phantom(Axis::Y, hinted, descender),
         }
+    }
+
+    /// The phantom points of a glyph, from the xMin of its header and its metrics.
+    #[tactic(auto, unfolding(crate::specs::Phantoms::phantoms_of))]
+    pub fn of_glyph(scale: &Scale, hinted: bool, x_min: i16, metrics: Metrics) -> PhantomPoints
+        ensures { result ≡ phantoms_of scale.now hinted x_min metrics }
+    {
+        let origin = margin(x_min, metrics.lsb);
+        PhantomPoints::of_bearings(scale, hinted, origin, metrics.advance_width)
     }
 
     /// The four in their order after a glyph's points.

@@ -1,6 +1,6 @@
 //! The points of a simple glyph at a size.
 
-ghost use Rattle.std.specs.Prelude.{◌≡◌, ◌<◌, ◌≤◌, [], IfOk, OnOk, length, map, vec_capacity};
+ghost use Rattle.std.specs.Prelude.{◌≡◌, ◌<◌, ◌≤◌, ◌^◌, [], IfOk, OnOk, length, map, vec_capacity};
 ghost use Rattle.std.specs.List.{All};
 ghost use Rattle.fx_zone.specs.Points.{resting};
 ghost use Rattle.fx_scale.specs.Scaling.{scaled_of};
@@ -8,25 +8,28 @@ ghost use Rattle.fx_scale.specs.Zones.{scaled_point, zone_of_simple};
 
 use crate::factor::Factor;
 use crate::scale::Scale;
+use crate::source::PointSource;
 use fx_fixed::Place;
 use fx_glyf::Simple;
 use fx_zone::Zone;
 use std::alloc::{AllocError, Global};
 use std::mem;
 
-/// Makes a zone that of a simple glyph: its points scaled one by one, original and current places alike, untouched, with its
-/// contours (OpenType, `glyf`, simple glyph description). The zone's lists are filled anew. If memory is refused it may hold
-/// anything.
-pub fn fill_zone(
+/// Makes a zone that of a simple glyph, with points from any source: each is scaled by itself, original and current places alike,
+/// untouched, and the contours are the glyph's (OpenType, `glyf`, simple glyph description). The zone's lists are filled anew. If
+/// memory is refused it may hold anything.
+pub fn fill_zone<S: PointSource + Drop>(
     alloc: Global,
     zone: &mut Zone,
     simple: &Simple<'_>,
+    source: S,
     scale: &Scale,
 ) -> Result<(), AllocError>
-    ensures { OnOk result (zone.new ≡ zone_of_simple scale.now simple.now) }
+    requires { length (S.left source) ≡ length simple.now.points }
+    ensures { OnOk result (zone.new ≡ zone_of_simple scale.now (record simple.now { points = S.left source })) }
 {
     let (points, ends) = mem::replace(zone, Zone::new(alloc)).into_lists();
-    let points = scaled_points(points, simple, scale)?;
+    let points = scaled_points(points, simple.point_count() as usize, source, scale)?;
     let ends = contour_ends(ends, simple)?;
     *zone = Zone::of(points, ends);
     Ok(())
@@ -35,23 +38,26 @@ pub fn fill_zone(
 /// The number of phantom points, which may be appended to a glyph's points.
 const PHANTOM_POINTS: usize = 4;
 
-/// The points scaled, in their order, in a list whose points are lost, with room for the phantom points.
-fn scaled_points(
+/// The points of a source scaled, in their order, in a list whose points are lost, with room for the phantom points.
+fn scaled_points<S: PointSource + Drop>(
     list: Vec<fx_zone::ZonePoint>,
-    simple: &Simple<'_>,
+    count: usize,
+    source: S,
     scale: &Scale,
 ) -> Result<Vec<fx_zone::ZonePoint>, AllocError>
-    ensures { IfOk result (λ v. v.items ≡ map (scaled_point scale.now) simple.now.points) }
+    requires size { count < 2 ^ 32 }
+    requires all { length (S.left source) ≡ count }
+    ensures { IfOk result (λ v. v.items ≡ map (scaled_point scale.now) (S.left source)) }
 {
     let mut scaled = list;
-    let count = simple.point_count() as usize;
     let blank = fx_zone::ZonePoint::resting(Place::origin(), false);
     scaled.resize(count + PHANTOM_POINTS, blank)?;
     scaled.truncate(count);
     let factor = scale.factor();
+    let mut left = source;
     let mut number = 0;
     // The points before `number` are scaled, and those from it on are left.
-    'points: for point in simple.points() {
+    'points: while let Some(point) = left.next_point() {
         write_scaled(&mut scaled[number], &factor, point);
         number += 1;
     }

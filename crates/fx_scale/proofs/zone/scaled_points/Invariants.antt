@@ -3,9 +3,12 @@ use Rattle.fx_scale.specs.Zones.{scaled_point}
 use Rattle.fx_scale.proofs.zone.scaled_points.Given as goal
 
 abbrev pub invariant-points : goal.invariant-points
-invariant-points l = record {
-  done : take l.number l.scaled.items ++ map (scaled_point l.scale) l.point-iterator
-      ≡ map (scaled_point l.scale) l.simple.points;
-  left : l.number + length l.point-iterator ≡ length l.simple.points;
-  len : length l.scaled.items ≡ length l.simple.points;
+invariant-points g l = record {
+  done : take l.number l.scaled.items ++ map (scaled_point l.scale) (g.S.PointSource.left l.left)
+      ≡ map (scaled_point l.scale) (g.S.PointSource.left l.fn.source);
+  left : l.number + length (g.S.PointSource.left l.left) ≡ l.fn.count;
+  len : length l.scaled.items ≡ l.fn.count;
 }
+
+abbrev pub decreases-points : goal.decreases-points
+decreases-points g l = length (g.S.PointSource.left l.left)
