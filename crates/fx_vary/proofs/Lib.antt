@@ -5,3 +5,4 @@ pub mod Numbering
 pub mod Controlling
 pub mod Resting
 pub mod NoneCounting
+pub mod AllPoints

@@ -16,7 +16,7 @@ use Rattle.fx_vary.specs.declared.fault.ShapeFault.{ShapeFault}
 use Rattle.fx_vary.specs.declared.fault.ShapeFault.TheVariants.{BadVariations}
 use Rattle.fx_vary.specs.Gvar.{glyph_data_of}
 use Rattle.fx_vary.specs.Instance.{InstanceView, setting_of, points_added}
-use Rattle.fx_vary.specs.Shape.{ShapeView, ends_of, points_before, summed, shape_in, x_min_of}
+use Rattle.fx_vary.specs.Shape.{own_shape, ShapeView, ends_of, points_before, summed, shape_in, x_min_of}
 use Rattle.fx_vary.specs.Laws.{IsInFont, StoreRests, NoneCountsIn}
 use Rattle.fx_vary.proofs.Resting.{rests}
 
@@ -63,7 +63,7 @@ module _ (i : InstanceView) (g : ℕ) (glyph : Glyph) (h : NoneCountsIn (setting
 pub rests_if_none : (i : InstanceView) (g : ℕ) (m : Metrics) (glyph : Glyph) (shape : ShapeView) → IsInFont glyph
     → unsigned_abs (x_min_of glyph -ℤ m.lsb) ≤ 65535 → m.advance_width ≤ 65535
     → NoneCountsIn (setting_of i) (glyph_data_of i.gvar g) → shape_in i g m glyph ≡ Ok shape
-    → shape ≡ record { glyph = glyph; bearings = record { origin = x_min_of glyph -ℤ m.lsb; advance = m.advance_width } }
+    → shape ≡ own_shape m glyph
 rests_if_none i g m glyph shape h b w n e =
     by_sums i g glyph n m shape _ (summed i g false glyph) (summed i g true glyph) refl refl e
     (λ x y. same_value _ _ _ (sym e) (rests i g m glyph h b w x y))

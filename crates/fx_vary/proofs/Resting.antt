@@ -26,7 +26,7 @@ use Rattle.fx_vary.specs.Settling.{whole_move, has_16_bits, settled}
 use Rattle.fx_vary.specs.Metrics.{origin_of, advance_of, bearings_of, one_of_sums}
 use Rattle.fx_vary.specs.Instance.{InstanceView}
 use Rattle.fx_vary.specs.Shape.{points_before, sum_at, both_settled, point_moved, component_moved, all_moved, glyph_moved}
-use Rattle.fx_vary.specs.Shape.{phantom_sum, summed, shape_in, x_min_of}
+use Rattle.fx_vary.specs.Shape.{phantom_sum, summed, own_shape, shape_in, x_min_of}
 use Rattle.fx_vary.specs.Laws.{IsPoint, IsComponent, IsInFont}
 use Rattle.fx_vary.proofs.Listing.{still_before}
 
@@ -141,8 +141,7 @@ bearings_stay m x_min x y ex ey h k =
 pub rests : (i : InstanceView) (g : ℕ) (m : Metrics) (glyph : Glyph) → IsInFont glyph
     → unsigned_abs (x_min_of glyph -ℤ m.lsb) ≤ 65535 → m.advance_width ≤ 65535
     → summed i g false glyph ≡ Ok (points_before false glyph) → summed i g true glyph ≡ Ok (points_before true glyph)
-    → shape_in i g m glyph
-    ≡ Ok (record { glyph = glyph; bearings = record { origin = x_min_of glyph -ℤ m.lsb; advance = m.advance_width } })
+    → shape_in i g m glyph ≡ Ok (own_shape m glyph)
 unfolding shape_in
 rests i g m glyph h b w ex ey =
     let zx : (j : ℕ) → sum_at (points_before false glyph) j ≡ pos 0 = still_before false glyph in

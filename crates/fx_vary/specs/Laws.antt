@@ -18,7 +18,7 @@ use Rattle.fx_moves.specs.Laws.{NoneCounts}
 use Rattle.fx_vary.specs.Gvar.{glyph_data_of}
 use Rattle.fx_vary.specs.Instance.{InstanceView, setting_of}
 use Rattle.fx_vary.specs.Settling.{whole_move, has_16_bits}
-use Rattle.fx_vary.specs.Shape.{ShapeView, shape_in, x_min_of}
+use Rattle.fx_vary.specs.Shape.{ShapeView, own_shape, shape_in, x_min_of}
 
 -- a tuple that counts 1 moves a point that it names by exactly its delta, if no other tuple moves it
 abbrev pub MovesByDelta : Type 0
@@ -54,7 +54,4 @@ RestsWhereNoneCounts =
     → m.advance_width ≤ 65535
     → NoneCountsIn (setting_of i) (glyph_data_of i.gvar g)
     → shape_in i g m glyph ≡ Ok shape
-    → shape ≡ record {
-      glyph = glyph;
-      bearings = record { origin = x_min_of glyph -ℤ m.lsb; advance = m.advance_width };
-    }
+    → shape ≡ own_shape m glyph

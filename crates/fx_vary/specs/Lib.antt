@@ -4,5 +4,6 @@ pub mod Settling
 pub mod Metrics
 pub mod Faults
 pub mod Shape
+pub mod FontAt
 pub mod Controls
 pub mod Laws

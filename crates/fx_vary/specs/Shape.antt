@@ -1,6 +1,6 @@
 -- A glyph of a font at a place: its points or its components, its origin and its advance.
 -- OpenType, "gvar", "Point numbers and processing for 'gvar'", "Phantom points".
-use Rattle.std.specs.Prelude.{ℕ, suc, ◌+◌, ℤ, pos, List, [], ◌∷◌, ◌++◌, length, map, slice_index_or, Option, Some, option_map}
+use Rattle.std.specs.Prelude.{ℕ, suc, ◌+◌, ℤ, pos, ◌-ℤ◌, List, [], ◌∷◌, ◌++◌, length, map, slice_index_or, Option, Some, option_map}
 use Rattle.std.specs.Prelude.{option_and_then, Result, Ok, Bool, true, false, if◌then◌else◌}
 use Rattle.fx_fixed.specs.Chain.{◌>>=◌, wanted, map_fault}
 use Rattle.fx_sfnt.specs.declared.records.Metrics.{Metrics}
@@ -113,6 +113,14 @@ phantom_sum glyph points k = sum_at points (length (own_points false glyph) + k)
 pub record ShapeView : Type 0 where
   pub glyph : Glyph
   pub bearings : Bearings
+
+-- the origin and the advance of a glyph as the font has it: its left side lies at its bearing
+abbrev pub own_bearings : Metrics → Glyph → Bearings
+own_bearings m glyph = record { origin = x_min_of glyph -ℤ m.lsb; advance = m.advance_width }
+
+-- a glyph as the font has it, by its metrics and its reading
+abbrev pub own_shape : Metrics → Glyph → ShapeView
+own_shape m glyph = record { glyph = glyph; bearings = own_bearings m glyph }
 
 -- a glyph of an instance, by its number, its metrics and its reading; or the first fault
 unfoldable pub shape_in : InstanceView → ℕ → Metrics → Glyph → Result ShapeView ShapeFault

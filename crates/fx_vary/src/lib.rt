@@ -6,6 +6,7 @@
 
 mod controls;
 mod fault;
+mod font_at;
 mod gvar;
 mod instance;
 mod laws;
@@ -15,6 +16,7 @@ mod settling;
 mod shape;
 
 pub use fault::{GvarFault, ShapeFault};
+pub use font_at::{FontAt, own_bearings};
 pub use gvar::is_gvar;
 pub use instance::Instance;
 pub use laws::{law_by_delta, law_rests};

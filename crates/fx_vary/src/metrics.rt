@@ -81,8 +81,8 @@ fn bearings_by(origin: i128, advance: i128) -> Option<Bearings>
     }
 }
 
-/// The x of the origin at the defaults.
-fn margin(x_min: i16, lsb: i16) -> i32
+/// The x of the origin as the font has it.
+pub fn margin(x_min: i16, lsb: i16) -> i32
     ensures value { result ≡ x_min -ℤ lsb }
     ensures small { unsigned_abs result ≤ 65535 }
 {

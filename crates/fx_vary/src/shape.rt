@@ -187,7 +187,7 @@ fn move_glyph(
 
 /// The xMin of a glyph's header.
 #[tactic(auto, unfolding(crate::specs::Shape::x_min_of))]
-fn x_min_of(glyph: &Glyph<'_>) -> i16
+pub fn x_min_of(glyph: &Glyph<'_>) -> i16
     ensures { result ≡ x_min_of glyph.now }
 {
     match glyph {
