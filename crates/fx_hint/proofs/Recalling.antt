@@ -5,6 +5,9 @@ use Rattle.std.proofs.lemmas.List.{length-map}
 use Rattle.fx_fixed.specs.Chain.{◌>>=◌}
 use Rattle.fx_sfnt.specs.declared.records.Metrics.{Metrics}
 use Rattle.fx_sfnt.specs.Tables.{Face}
+use Rattle.fx_vary.specs.declared.metrics.Bearings.{Bearings}
+use Rattle.fx_vary.specs.Shape.{own_bearings}
+use Rattle.fx_hint.specs.Shapes.{shapes_of}
 use Rattle.fx_sfnt.specs.Glyphs.{metrics_of, glyph_bytes_of}
 use Rattle.fx_glyf.specs.declared.glyph.Glyph.TheVariants.{Simple}
 use Rattle.fx_glyf.specs.Shapes.{SimpleView}
@@ -39,7 +42,7 @@ counted_after h g code start made usage (Ok c) r = rw r refl
 counted_after h g code start made usage (Err e) r = refl
 
 counted_simple_is_begun : (h : Hinting) (s : Scale) (root : ℕ) (component : Option ComponentOf) (g : ℕ)
-    (m : Metrics) (shape : SimpleView) (made : Made) (usage : Usage) (count : Count)
+    (m : Bearings) (shape : SimpleView) (made : Made) (usage : Usage) (count : Count)
     → KeepsShape h → h.run g shape.code (scaled_simple s h.on m shape) ≡ Ok (made, usage)
     → counted_made root made usage count ≡ begun_by h s root component g m (Simple shape) count
 unfolding counted_made begun_by simple_made
@@ -53,10 +56,11 @@ counted_simple_is_begun h s root component g m shape made usage count keeps r =
 pub begun_again : (h : Hinting) (face : Face) (s : Scale) (root : ℕ) (component : Option ComponentOf) (g : ℕ) (m : Metrics)
     (bytes : List ℕ) (made : Made) (usage : Usage) (count : Count)
     → KeepsShape h → metrics_of face g ≡ Ok m → glyph_bytes_of face g ≡ Ok bytes → IsMadeAlone h s g m bytes made usage
-    → counted_made root made usage count ≡ begun h face s root component g count
-unfolding begun
+    → counted_made root made usage count ≡ begun h (shapes_of face) s root component g count
+unfolding begun shapes_of
 begun_again h face s root component g m bytes made usage count keeps a b k =
-    rw (a, b, k.read) (counted_simple_is_begun h s root component g m k.shape made usage count keeps k.ran)
+    rw (a, b, k.read) (counted_simple_is_begun h s root component g (own_bearings m (Simple k.shape)) k.shape made usage count
+    keeps k.ran)
 
 -- what a place takes is true; out of memory it keeps nothing
 pub taken_true : {E : Type 0} (h : Hinting) (glyph : KeptGlyphView) (r : Result (Unit {0}) E) (place : Option KeptGlyphView)

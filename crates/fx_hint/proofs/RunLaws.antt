@@ -1,15 +1,13 @@
 -- The programs that were started are the first of those that are due: `first_of_begun`, `first_of_closed`.
 -- For the walk, which keeps account of them.
 use Rattle.std.proofs.Common.{◌≡◌, ℕ, zero, suc, ◌-◌, ◌+◌, List, [], ◌∷◌, ◌++◌, length, Option, Some, refl, sym, ap, ◌∙◌, subst, Result, Ok, Err, Bool, true, false, append_assoc, append-nil}
-use Rattle.fx_fixed.specs.Chain.{◌>>=◌, map_fault}
-use Rattle.fx_sfnt.specs.declared.records.Metrics.{Metrics}
-use Rattle.fx_sfnt.specs.Tables.{Face}
-use Rattle.fx_sfnt.specs.Glyphs.{metrics_of, glyph_bytes_of}
+use Rattle.fx_fixed.specs.Chain.{◌>>=◌}
+use Rattle.fx_vary.specs.declared.metrics.Bearings.{Bearings}
+use Rattle.fx_hint.specs.Shapes.{Shapes}
 use Rattle.fx_glyf.specs.declared.component.Component.{Component}
 use Rattle.fx_glyf.specs.declared.glyph.Glyph as glyf
 use Rattle.fx_glyf.specs.declared.glyph.Glyph.TheVariants.{Empty, Simple, Composite}
 use Rattle.fx_glyf.specs.Shapes.{SimpleView}
-use Rattle.fx_glyf.specs.Glyphs.{glyph_of}
 use Rattle.fx_scale.specs.declared.scale.Scale.{Scale}
 use Rattle.fx_hint.specs.declared.component.ComponentOf.{ComponentOf}
 use Rattle.fx_hint.specs.declared.count.Count.{Count}
@@ -18,7 +16,6 @@ use Rattle.fx_hint.specs.declared.below.OpenComposite.{OpenComposite}
 use Rattle.fx_hint.specs.declared.below.Waiting.{Waiting}
 use Rattle.fx_hint.specs.inner.Steps.{Step, Assembled, Open}
 use Rattle.fx_hint.specs.declared.fault.HintFault.{HintFault}
-use Rattle.fx_hint.specs.declared.fault.HintFault.TheVariants.{Font, Glyph}
 use Rattle.fx_hint.specs.Hinting.{Hinting}
 use Rattle.fx_hint.specs.Placing.{with_component}
 use Rattle.fx_hint.specs.Outlines.{one_component, simple_made, run_on}
@@ -90,7 +87,7 @@ shut_in : Result (Step × Count) HintFault → Bool
 shut_in (Ok x) = shut x.0
 shut_in (Err e) = true
 
-module _ (h : Hinting) (face : Face) (s : Scale) (root : ℕ) where
+module _ (h : Hinting) (font : Shapes) (s : Scale) (root : ℕ) where
   first_run : (component : Option ComponentOf) (g : ℕ) (code : List ℕ) (x : Made × Logged)
       → AreFirst x.1.1 (runs_in (logged_run h component g code x))
   unfolding logged_run
@@ -117,7 +114,7 @@ module _ (h : Hinting) (face : Face) (s : Scale) (root : ℕ) where
   first_simple component g code count (Ok made) = first_run component g code (made.0, (made.1, count.1))
   first_simple component g code count (Err e) = first_same count.1
 
-  first_made_of : (make : LoggedMaker) (component : Option ComponentOf) (g : ℕ) (m : Metrics) (glyph : glyf.Glyph) (count : Logged)
+  first_made_of : (make : LoggedMaker) (component : Option ComponentOf) (g : ℕ) (m : Bearings) (glyph : glyf.Glyph) (count : Logged)
       → ((w : Option ComponentOf) (n : ℕ) (c : Logged) → AreFirst c.1 (runs_in (make w n c)))
       → AreFirst count.1 (runs_in (logged_made_of h s root make component g m glyph count))
   unfolding logged_made_of logged_simple
@@ -131,12 +128,10 @@ module _ (h : Hinting) (face : Face) (s : Scale) (root : ℕ) where
 
   first_assembled : (make : LoggedMaker) (component : Option ComponentOf) (g : ℕ) (count : Logged)
       → ((w : Option ComponentOf) (n : ℕ) (c : Logged) → AreFirst c.1 (runs_in (make w n c)))
-      → AreFirst count.1 (runs_in (logged_assembled h face s root make component g count))
+      → AreFirst count.1 (runs_in (logged_assembled h font s root make component g count))
   unfolding logged_assembled
   first_assembled make component g count f =
-      first_check count.1 (map_fault Font (metrics_of face g)) _ (λ m.
-      first_check count.1 (map_fault Font (glyph_bytes_of face g)) _ (λ bytes.
-      first_check count.1 (map_fault Glyph (glyph_of bytes g)) _ (λ glyph. first_made_of make component g m glyph count f)))
+      first_check count.1 (font g) _ (λ shape. first_made_of make component g shape.bearings shape.glyph count f)
 
   first_one : (count : Logged) (r : Result Count HintFault) (k : Logged → LoggedOutcome)
       → ((c : Logged) → AreFirst c.1 (runs_in (k c)))
@@ -145,39 +140,39 @@ module _ (h : Hinting) (face : Face) (s : Scale) (root : ℕ) where
   first_one count (Err e) k f = first_same count.1
 
   first_component : (levels : ℕ) (component : Option ComponentOf) (g : ℕ) (count : Logged)
-      → AreFirst count.1 (runs_in (logged_component h face s root levels component g count))
+      → AreFirst count.1 (runs_in (logged_component h font s root levels component g count))
   unfolding logged_component logged_one
   first_component zero component g count = first_same count.1
   first_component (suc levels) component g count =
       first_one count (one_component root count.0)
-      (λ c. logged_assembled h face s root (logged_component h face s root levels) component g c)
-      (λ c. first_assembled (logged_component h face s root levels) component g c (λ w n d. first_component levels w n d))
+      (λ c. logged_assembled h font s root (logged_component h font s root levels) component g c)
+      (λ c. first_assembled (logged_component h font s root levels) component g c (λ w n d. first_component levels w n d))
 
   first_left : (levels : ℕ) (c : OpenComposite) (count : Logged)
-      → AreFirst count.1 (runs_in (logged_left h face s root levels c count))
+      → AreFirst count.1 (runs_in (logged_left h font s root levels c count))
   first_left levels c count =
-      first_then count.1 _ _ (first_components (logged_component h face s root levels) c.node.g c.before c.left c.base count
+      first_then count.1 _ _ (first_components (logged_component h font s root levels) c.node.g c.before c.left c.base count
       (λ w n d. first_component levels w n d))
-      (first_chain (logged_components s h.on (logged_component h face s root levels) c.node.g c.before c.left c.base count)
+      (first_chain (logged_components s h.on (logged_component h font s root levels) c.node.g c.before c.left c.base count)
       (logged_run h c.node.component c.node.g c.glyph.code) (λ x. first_run c.node.component c.node.g c.glyph.code x))
 
-  first_into : (levels : ℕ) (w : Waiting) (r : Made × Logged) → AreFirst r.1.1 (runs_in (logged_goes_into h face s root levels w r))
+  first_into : (levels : ℕ) (w : Waiting) (r : Made × Logged) → AreFirst r.1.1 (runs_in (logged_goes_into h font s root levels w r))
   first_into levels w r =
       first_check r.1.1 (with_component s h.on w.composite.node.g w.component w.composite.base r.0) _
       (λ more. first_left levels (record w.composite { base = more }) r.1)
 
-  first_given : (levels : ℕ) (x : Step × Logged) → AreFirst x.1.1 (runs_in (logged_given_by h face s root levels x))
+  first_given : (levels : ℕ) (x : Step × Logged) → AreFirst x.1.1 (runs_in (logged_given_by h font s root levels x))
   first_given levels (Assembled made, count) = first_same count.1
   first_given levels (Open c, count) = first_left levels c count
 
   -- what the innermost open composite has started is the first of what the root starts
   pub first_rest : (levels : ℕ) (ws : List Waiting) (r : LoggedOutcome)
-      → AreFirst (runs_in r) (runs_in (logged_rest_of h face s root levels ws r))
+      → AreFirst (runs_in r) (runs_in (logged_rest_of h font s root levels ws r))
   unfolding logged_rest_of
   first_rest levels [] r = first_same (runs_in r)
   first_rest levels (w ∷ ws) r =
       first_then (runs_in r) _ _ (first_rest (levels - 1) ws r)
-      (first_chain (logged_rest_of h face s root (levels - 1) ws r) (logged_goes_into h face s root levels w)
+      (first_chain (logged_rest_of h font s root (levels - 1) ws r) (logged_goes_into h font s root levels w)
       (λ x. first_into levels w x))
 
   -- ---- a glyph that is begun starts at most one program
@@ -202,7 +197,7 @@ module _ (h : Hinting) (face : Face) (s : Scale) (root : ℕ) where
   check_logged runs (Ok x) f k l h = h x
   check_logged runs (Err e) f k l h = ap (λ (t : List ProgramRun). Err (e, t)) (sym (append-nil runs))
 
-  begun_by_logged : (component : Option ComponentOf) (g : ℕ) (m : Metrics) (glyph : glyf.Glyph) (count : Count)
+  begun_by_logged : (component : Option ComponentOf) (g : ℕ) (m : Bearings) (glyph : glyf.Glyph) (count : Count)
       (runs : List ProgramRun)
       → logged_begun_by h s root component g m glyph (count, runs)
       ≡ logged (runs ++ begun_by_runs h s root component g m glyph count) (begun_by h s root component g m glyph count)
@@ -213,13 +208,11 @@ module _ (h : Hinting) (face : Face) (s : Scale) (root : ℕ) where
   begun_by_logged component g m (Composite assembly) count runs = rw (append-nil runs) refl
 
   begun_logged : (component : Option ComponentOf) (g : ℕ) (count : Count) (runs : List ProgramRun)
-      → logged_begun h face s root component g (count, runs)
-      ≡ logged (runs ++ begun_runs h face s root component g count) (begun h face s root component g count)
+      → logged_begun h font s root component g (count, runs)
+      ≡ logged (runs ++ begun_runs h font s root component g count) (begun h font s root component g count)
   unfolding logged_begun begun begun_runs
   begun_logged component g count runs =
-      check_logged runs (map_fault Font (metrics_of face g)) _ _ _ (λ m.
-      check_logged runs (map_fault Font (glyph_bytes_of face g)) _ _ _ (λ bytes.
-      check_logged runs (map_fault Glyph (glyph_of bytes g)) _ _ _ (λ glyph. begun_by_logged component g m glyph count runs)))
+      check_logged runs (font g) _ _ _ (λ shape. begun_by_logged component g shape.bearings shape.glyph count runs)
 
   one_logged : {B : Type 0} (runs : List ProgramRun) (r : Result Count HintFault) (f : Logged → Result (B × Logged) LoggedFault)
       (k : Count → Result (B × Count) HintFault) (l : Count → List ProgramRun)
@@ -229,25 +222,25 @@ module _ (h : Hinting) (face : Face) (s : Scale) (root : ℕ) where
   one_logged runs (Err e) f k l h = ap (λ (t : List ProgramRun). Err (e, t)) (sym (append-nil runs))
 
   component_logged : (levels : ℕ) (component : Option ComponentOf) (g : ℕ) (count : Count) (runs : List ProgramRun)
-      → logged_begun_component h face s root levels component g (count, runs)
-      ≡ logged (runs ++ begun_component_runs h face s root levels component g count)
-      (begun_component h face s root levels component g count)
+      → logged_begun_component h font s root levels component g (count, runs)
+      ≡ logged (runs ++ begun_component_runs h font s root levels component g count)
+      (begun_component h font s root levels component g count)
   unfolding logged_begun_component logged_one begun_component begun_component_runs
   component_logged zero component g count runs = rw (append-nil runs) refl
   component_logged (suc levels) component g count runs =
-      one_logged runs (one_component root count) (λ c. logged_begun h face s root component g c)
-      (λ c. begun h face s root component g c) (λ c. begun_runs h face s root component g c)
+      one_logged runs (one_component root count) (λ c. logged_begun h font s root component g c)
+      (λ c. begun h font s root component g c) (λ c. begun_runs h font s root component g c)
       (λ c. begun_logged component g c runs)
 
   -- in the loop: what a component gives, plain and logged
   pub logged_is : (levels : ℕ) (component : Option ComponentOf) (g : ℕ) (count : Count) (runs : List ProgramRun)
-      (q : Result (Step × Count) HintFault) → begun_component h face s root levels component g count ≡ q
-      → logged_begun_component h face s root levels component g (count, runs)
-      ≡ logged (runs ++ begun_component_runs h face s root levels component g count) q
+      (q : Result (Step × Count) HintFault) → begun_component h font s root levels component g count ≡ q
+      → logged_begun_component h font s root levels component g (count, runs)
+      ≡ logged (runs ++ begun_component_runs h font s root levels component g count) q
   logged_is levels component g count runs q e =
       component_logged levels component g count runs
       ∙ ap (λ (r : Result (Step × Count) HintFault).
-      logged (runs ++ begun_component_runs h face s root levels component g count) r) e
+      logged (runs ++ begun_component_runs h font s root levels component g count) r) e
 
   runs_of_logged : {A : Type 0} (runs : List ProgramRun) (q : Result (A × Count) HintFault) → runs_in (logged runs q) ≡ runs
   runs_of_logged runs (Ok x) = refl
@@ -256,24 +249,24 @@ module _ (h : Hinting) (face : Face) (s : Scale) (root : ℕ) where
   -- when a component was begun, the programs so far are the first of what is due
   pub first_of_begun : (below : List Waiting) (levels : ℕ) (c : OpenComposite) (component : Component) (left : List Component)
       (count : Logged) (due : LoggedOutcome) (runs : List ProgramRun) (q : Result (Step × Count) HintFault)
-      → logged_rest_of h face s root max_depth below (logged_given_by h face s root (max_depth - length below)
+      → logged_rest_of h font s root max_depth below (logged_given_by h font s root (max_depth - length below)
       (Open c, count)) ≡ due
       → c.left ≡ component ∷ left → levels ≡ max_depth - length below
-      → logged_begun_component h face s root levels (next_of c) component.glyph count ≡ logged runs q → AreFirst runs (runs_in due)
+      → logged_begun_component h font s root levels (next_of c) component.glyph count ≡ logged runs q → AreFirst runs (runs_in due)
   first_of_begun below levels c component left count due runs q i e l b =
       let w : Waiting = record { component = component; composite = with_next c left } in
       let k = max_depth - length below in
       let begun = rw l at b in
-      let t = logged_begun_component h face s root (max_depth - length below) (next_of c) component.glyph count in
+      let t = logged_begun_component h font s root (max_depth - length below) (next_of c) component.glyph count in
       let P : LoggedOutcome → Type 0 = λ o. AreFirst (runs_in t) (runs_in o) in
-      let f = subst P (down h face s root below c component left count due i e)
+      let f = subst P (down h font s root below c component left count due i e)
       (first_then (runs_in t) _ _ (first_then (runs_in t) _ _
-      (first_chain t (logged_given_by h face s root (max_depth - length below - 1))
+      (first_chain t (logged_given_by h font s root (max_depth - length below - 1))
       (λ x. first_given (max_depth - length below - 1) x))
-      (first_chain (t >>= logged_given_by h face s root (max_depth - length below - 1))
-      (logged_goes_into h face s root (max_depth - length below) w) (λ x. first_into (max_depth - length below) w x)))
-      (first_rest max_depth below ((t >>= logged_given_by h face s root (max_depth - length below - 1))
-      >>= logged_goes_into h face s root (max_depth - length below) w))) in
+      (first_chain (t >>= logged_given_by h font s root (max_depth - length below - 1))
+      (logged_goes_into h font s root (max_depth - length below) w) (λ x. first_into (max_depth - length below) w x)))
+      (first_rest max_depth below ((t >>= logged_given_by h font s root (max_depth - length below - 1))
+      >>= logged_goes_into h font s root (max_depth - length below) w))) in
       let same : runs_in t ≡ runs =
       ap (λ (o : Result (Step × Logged) LoggedFault). runs_in o) begun ∙ runs_of_logged runs q in
       let Q : List ProgramRun → Type 0 = λ rs. AreFirst rs (runs_in due) in
@@ -282,14 +275,14 @@ module _ (h : Hinting) (face : Face) (s : Scale) (root : ℕ) where
   -- when the composite's program ran, the programs so far are the first of what is due
   pub first_of_closed : (below : List Waiting) (levels : ℕ) (c : OpenComposite) (count : Logged) (due : LoggedOutcome)
       (runs : List ProgramRun) (q : Result (Made × Count) HintFault)
-      → logged_rest_of h face s root max_depth below (logged_given_by h face s root levels (Open c, count)) ≡ due
+      → logged_rest_of h font s root max_depth below (logged_given_by h font s root levels (Open c, count)) ≡ due
       → c.left ≡ [] → logged_run h c.node.component c.node.g c.glyph.code (c.base, count) ≡ logged runs q
       → AreFirst runs (runs_in due)
   first_of_closed below levels c count due runs q i e r =
       let t = logged_run h c.node.component c.node.g c.glyph.code (c.base, count) in
       let P : LoggedOutcome → Type 0 = λ o. AreFirst (runs_in t) (runs_in o) in
-      let f = subst P (sym (ap (λ (o : LoggedOutcome). logged_rest_of h face s root max_depth below o)
-      (closes h face s root levels c count e)) ∙ i) (first_rest max_depth below t) in
+      let f = subst P (sym (ap (λ (o : LoggedOutcome). logged_rest_of h font s root max_depth below o)
+      (closes h font s root levels c count e)) ∙ i) (first_rest max_depth below t) in
       let same : runs_in t ≡ runs = ap (λ (o : LoggedOutcome). runs_in o) r ∙ runs_of_logged runs q in
       let Q : List ProgramRun → Type 0 = λ rs. AreFirst rs (runs_in due) in
       subst Q same f
@@ -298,25 +291,25 @@ module _ (h : Hinting) (face : Face) (s : Scale) (root : ℕ) where
 
   pub begun_is : (component : Option ComponentOf) (g : ℕ) (count : Count) (runs : List ProgramRun)
       (q : Result (Step × Count) HintFault)
-      → begun h face s root component g count ≡ q → logged_begun h face s root component g (count, runs)
-      ≡ logged (runs ++ begun_runs h face s root component g count) q
+      → begun h font s root component g count ≡ q → logged_begun h font s root component g (count, runs)
+      ≡ logged (runs ++ begun_runs h font s root component g count) q
   begun_is component g count runs q e =
       begun_logged component g count runs
-      ∙ ap (λ (r : Result (Step × Count) HintFault). logged (runs ++ begun_runs h face s root component g count) r) e
+      ∙ ap (λ (r : Result (Step × Count) HintFault). logged (runs ++ begun_runs h font s root component g count) r) e
 
   pub first_of_root : (component : Option ComponentOf) (g : ℕ) (count : Logged) (runs : List ProgramRun)
       (q : Result (Step × Count) HintFault)
-      → logged_begun h face s root component g count ≡ logged runs q
-      → AreFirst runs (runs_in (logged_assembled h face s root (logged_component h face s root max_depth) component g count))
+      → logged_begun h font s root component g count ≡ logged runs q
+      → AreFirst runs (runs_in (logged_assembled h font s root (logged_component h font s root max_depth) component g count))
   first_of_root component g count runs q b =
-      let t = logged_begun h face s root component g count in
+      let t = logged_begun h font s root component g count in
       let P : LoggedOutcome → Type 0 = λ o. AreFirst (runs_in t) (runs_in o) in
-      let f = subst P (sym (assembled_by h face s root max_depth component g count))
-      (first_chain t (logged_given_by h face s root max_depth) (λ x. first_given max_depth x)) in
+      let f = subst P (sym (assembled_by h font s root max_depth component g count))
+      (first_chain t (logged_given_by h font s root max_depth) (λ x. first_given max_depth x)) in
       let same : runs_in t ≡ runs =
       ap (λ (o : Result (Step × Logged) LoggedFault). runs_in o) b ∙ runs_of_logged runs q in
       let Q : List ProgramRun → Type 0 =
-      λ rs. AreFirst rs (runs_in (logged_assembled h face s root (logged_component h face s root max_depth) component g count)) in
+      λ rs. AreFirst rs (runs_in (logged_assembled h font s root (logged_component h font s root max_depth) component g count)) in
       subst Q same f
 
   -- a composite that is begun has started no program
@@ -332,7 +325,7 @@ module _ (h : Hinting) (face : Face) (s : Scale) (root : ℕ) where
   none_made (Ok made) f l c counted e = none_ran (f made) c counted (l made) e
   none_made (Err d) f l c counted e = refl
 
-  none_by : (component : Option ComponentOf) (g : ℕ) (m : Metrics) (glyph : glyf.Glyph) (count counted : Count) (c : OpenComposite)
+  none_by : (component : Option ComponentOf) (g : ℕ) (m : Bearings) (glyph : glyf.Glyph) (count counted : Count) (c : OpenComposite)
       → begun_by h s root component g m glyph count ≡ Ok (Open c, counted) → begun_by_runs h s root component g m glyph count ≡ []
   unfolding begun_by begun_by_runs
   none_by component g m Empty count counted c e = refl
@@ -346,27 +339,24 @@ module _ (h : Hinting) (face : Face) (s : Scale) (root : ℕ) where
   once_none (Err d) k l y h e = refl
 
   none_begun : (component : Option ComponentOf) (g : ℕ) (count counted : Count) (c : OpenComposite)
-      → begun h face s root component g count ≡ Ok (Open c, counted) → begun_runs h face s root component g count ≡ []
+      → begun h font s root component g count ≡ Ok (Open c, counted) → begun_runs h font s root component g count ≡ []
   unfolding begun begun_runs
   none_begun component g count counted c e =
-      once_none (map_fault Font (metrics_of face g)) _ _ (Open c, counted)
-      (λ m. once_none (map_fault Font (glyph_bytes_of face g)) _ _ (Open c, counted)
-      (λ bytes. once_none (map_fault Glyph (glyph_of bytes g)) _ _ (Open c, counted)
-      (λ glyph f. none_by component g m glyph count counted c f))) e
+      once_none (font g) _ _ (Open c, counted) (λ shape f. none_by component g shape.bearings shape.glyph count counted c f) e
 
   -- so the root gives what it gives as an open composite
   pub opened : (component : Option ComponentOf) (g : ℕ) (count counted : Count) (c : OpenComposite)
-      → begun h face s root component g count ≡ Ok (Open c, counted)
-      → (begun_runs h face s root component g count ≡ [])
-      × (logged_assembled h face s root (logged_component h face s root max_depth) component g (count, [])
-      ≡ logged_left h face s root max_depth c (counted, []))
+      → begun h font s root component g count ≡ Ok (Open c, counted)
+      → (begun_runs h font s root component g count ≡ [])
+      × (logged_assembled h font s root (logged_component h font s root max_depth) component g (count, [])
+      ≡ logged_left h font s root max_depth c (counted, []))
   opened component g count counted c e =
       let n = none_begun component g count counted c e in (
         n,
-        assembled_by h face s root max_depth component g (count, [])
-            ∙ ap (λ (q : Result (Step × Logged) LoggedFault). q >>= logged_given_by h face s root max_depth)
+        assembled_by h font s root max_depth component g (count, [])
+            ∙ ap (λ (q : Result (Step × Logged) LoggedFault). q >>= logged_given_by h font s root max_depth)
             (begun_is component g count [] (Ok (Open c, counted)) e)
-            ∙ ap (λ (rs : List ProgramRun). logged_left h face s root max_depth c (counted, rs)) n,
+            ∙ ap (λ (rs : List ProgramRun). logged_left h font s root max_depth c (counted, rs)) n,
       )
 
 -- ---- what a hinter has run
@@ -397,25 +387,25 @@ stops_on Leads then was mid now made e r runs more count due l s a f h =
 -- ---- a glyph that is begun
 
 -- a simple glyph that is made starts its program
-pub simple_runs : (h : Hinting) (face : Face) (s : Scale) (root : ℕ) (component : Option ComponentOf) (g : ℕ)
-    (count counted : Count) (m : Metrics) (bytes : List ℕ) (shape : SimpleView) (made : Made)
-    → metrics_of face g ≡ Ok m → glyph_bytes_of face g ≡ Ok bytes → glyph_of bytes g ≡ Ok (Simple shape)
+pub simple_runs : (h : Hinting) (font : Shapes) (s : Scale) (root : ℕ) (component : Option ComponentOf) (g : ℕ)
+    (count counted : Count) (m : Bearings) (shape : SimpleView) (made : Made)
+    → font g ≡ Ok (record { glyph = Simple shape; bearings = m })
     → simple_made s h.on root m shape count ≡ Ok (made, counted)
-    → begun_runs h face s root component g count
+    → begun_runs h font s root component g count
     ≡ record { component = component; g = g; code = shape.code; made = made } ∷ []
 unfolding begun_runs begun_by_runs
-simple_runs h face s root component g count counted m bytes shape made a b c e = rw (a, b, c, e) refl
+simple_runs h font s root component g count counted m shape made a e = rw (a, e) refl
 
 -- one that is not made starts none
-pub none_started : {S : Type 0} (Leads : S → List ProgramRun → S → Type 0) (x : S) (e : HintFault) (h : Hinting) (face : Face)
-    (s : Scale) (root : ℕ) (component : Option ComponentOf) (g : ℕ) (count : Count) (m : Metrics) (bytes : List ℕ)
+pub none_started : {S : Type 0} (Leads : S → List ProgramRun → S → Type 0) (x : S) (e : HintFault) (h : Hinting) (font : Shapes)
+    (s : Scale) (root : ℕ) (component : Option ComponentOf) (g : ℕ) (count : Count) (m : Bearings)
     (shape : SimpleView)
-    → metrics_of face g ≡ Ok m → glyph_bytes_of face g ≡ Ok bytes → glyph_of bytes g ≡ Ok (Simple shape)
+    → font g ≡ Ok (record { glyph = Simple shape; bearings = m })
     → Leads x [] x → Fails e (simple_made s h.on root m shape count)
-    → StopsAfter Leads x x e (begun_runs h face s root component g count)
+    → StopsAfter Leads x x e (begun_runs h font s root component g count)
 unfolding begun_runs begun_by_runs
-none_started Leads x OutOfMemory h face s root component g count m bytes shape a b c l f = ([], (_, refl), l)
-none_started Leads x e h face s root component g count m bytes shape a b c l f = rw (a, b, c, f) l
+none_started Leads x OutOfMemory h font s root component g count m shape a l f = ([], (_, refl), l)
+none_started Leads x e h font s root component g count m shape a l f = rw (a, f) l
 
 any_once : {A : Type 0} (P : List ProgramRun → Type 0) (r : Result A HintFault) (f : A → List ProgramRun) → P []
     → ((x : A) → P (f x)) → P (once r f)
@@ -423,7 +413,7 @@ any_once P (Ok x) f n h = h x
 any_once P (Err e) f n h = n
 
 any_by : (P : List ProgramRun → Type 0) (h : Hinting) (s : Scale) (root : ℕ) (component : Option ComponentOf) (g : ℕ)
-    (m : Metrics) (glyph : glyf.Glyph) (count : Count)
+    (m : Bearings) (glyph : glyf.Glyph) (count : Count)
     → P [] → ((run : ProgramRun) → P (run ∷ [])) → P (begun_by_runs h s root component g m glyph count)
 unfolding begun_by_runs
 any_by P h s root component g m Empty count n one = n
@@ -432,14 +422,12 @@ any_by P h s root component g m (Simple shape) count n one =
     (λ made. one (record { component = component; g = g; code = shape.code; made = made.0 }))
 any_by P h s root component g m (Composite assembly) count n one = n
 
-any_begun : (P : List ProgramRun → Type 0) (h : Hinting) (face : Face) (s : Scale) (root : ℕ) (component : Option ComponentOf)
+any_begun : (P : List ProgramRun → Type 0) (h : Hinting) (font : Shapes) (s : Scale) (root : ℕ) (component : Option ComponentOf)
     (g : ℕ) (count : Count) → P []
-    → ((run : ProgramRun) → P (run ∷ [])) → P (begun_runs h face s root component g count)
+    → ((run : ProgramRun) → P (run ∷ [])) → P (begun_runs h font s root component g count)
 unfolding begun_runs
-any_begun P h face s root component g count n one =
-    any_once P (map_fault Font (metrics_of face g)) _ n (λ m.
-    any_once P (map_fault Font (glyph_bytes_of face g)) _ n (λ bytes.
-    any_once P (map_fault Glyph (glyph_of bytes g)) _ n (λ glyph. any_by P h s root component g m glyph count n one)))
+any_begun P h font s root component g count n one =
+    any_once P (font g) _ n (λ shape. any_by P h s root component g shape.bearings shape.glyph count n one)
 
 stands : {S A : Type 0} (Leads : S → List ProgramRun → S → Type 0) (x : S) (r : Result A HintFault) (runs : List ProgramRun)
     → Leads x runs x → HasRun Leads x x r runs
@@ -448,13 +436,13 @@ stands Leads x (Err OutOfMemory) runs l = (runs, first_same runs, l)
 stands Leads x (Err e) runs l = l
 
 -- a hinter that recalls glyphs takes each for run
-pub recalls : {S A : Type 0} (Leads : S → List ProgramRun → S → Type 0) (x : S) (r : Result A HintFault) (h : Hinting) (face : Face)
-    (s : Scale) (root : ℕ) (component : Option ComponentOf) (g : ℕ) (count : Count) → Leads x [] x
+pub recalls : {S A : Type 0} (Leads : S → List ProgramRun → S → Type 0) (x : S) (r : Result A HintFault) (h : Hinting)
+    (font : Shapes) (s : Scale) (root : ℕ) (component : Option ComponentOf) (g : ℕ) (count : Count) → Leads x [] x
     → ((run : ProgramRun) → Leads x (run ∷ []) x)
-    → HasRun Leads x x r (begun_runs h face s root component g count)
-recalls Leads x r h face s root component g count n one =
-    stands Leads x r (begun_runs h face s root component g count)
-    (any_begun (λ runs. Leads x runs x) h face s root component g count n one)
+    → HasRun Leads x x r (begun_runs h font s root component g count)
+recalls Leads x r h font s root component g count n one =
+    stands Leads x r (begun_runs h font s root component g count)
+    (any_begun (λ runs. Leads x runs x) h font s root component g count n one)
 
 -- no program, and then a walk
 pub none_then : {S : Type 0} (Leads : S → List ProgramRun → S → Type 0)

@@ -5,10 +5,12 @@ use Rattle.std.proofs.Common.{arith, length-append}
 use Rattle.std.specs.Prelude.{nat_lt, nat_le}
 use Rattle.std.proofs.lemmas.Bool.{ltb-false}
 use Rattle.std.proofs.lemmas.List.{length-map}
-use Rattle.fx_fixed.specs.Chain.{◌>>=◌, map_fault}
+use Rattle.fx_fixed.specs.Chain.{map_fault}
 use Rattle.fx_fixed.proofs.Chain.{bind_ok, refuse_ok, map_fault_ok, ok_injective}
-use Rattle.fx_sfnt.specs.declared.records.Metrics.{Metrics}
+use Rattle.fx_vary.specs.declared.metrics.Bearings.{Bearings}
 use Rattle.fx_sfnt.specs.Tables.{Face}
+use Rattle.fx_vary.specs.Shape.{ShapeView}
+use Rattle.fx_hint.specs.Shapes.{Shapes, shapes_of}
 use Rattle.fx_sfnt.specs.Glyphs.{metrics_of, glyph_bytes_of}
 use Rattle.fx_glyf.specs.declared.component.Component.{Component}
 use Rattle.fx_glyf.specs.declared.glyph.Glyph as glyf
@@ -20,7 +22,7 @@ use Rattle.fx_glyf.proofs.PointsDescribed.{only_points}
 use Rattle.fx_glyf.proofs.Described.{found_glyph}
 use Rattle.fx_zone.specs.Figures.{Figure, empty_figure, joined}
 use Rattle.fx_scale.specs.declared.scale.Scale.{Scale}
-use Rattle.fx_scale.specs.Phantoms.{phantoms_of}
+use Rattle.fx_scale.specs.Phantoms.{phantoms_from}
 use Rattle.fx_scale.specs.Zones.{scaled_point, zone_of_simple}
 use Rattle.fx_hint.specs.declared.count.Count.{Count}
 use Rattle.fx_hint.specs.declared.made.Made.{Made}
@@ -47,7 +49,7 @@ AllCounted make =
     (g : ℕ) (count : Count) (r : Made × Count) → count.points ≤ max_points → make g count ≡ Ok r → IsCounted count r.0 r.1
 
 -- the contours of a simple glyph that was read end with its points
-abbrev IsValid : glyf.Glyph → Type 0
+abbrev pub IsValid : glyf.Glyph → Type 0
 IsValid Empty = Unit {0}
 IsValid (Simple shape) = AreEnds 0 shape.ends (length shape.points)
 IsValid (Composite assembly) = Unit {0}
@@ -61,6 +63,20 @@ read_valid bytes g (Simple shape) h =
     let P : ℕ → Type 0 = λ k. AreEnds 0 shape.ends k in
     subst P (sym n) d.in_order
 read_valid bytes g (Composite assembly) h = tt
+
+-- those of all glyphs
+abbrev pub AreValid : Shapes → Type 0
+AreValid font = (g : ℕ) (x : ShapeView) → font g ≡ Ok x → IsValid x.glyph
+
+pub font_valid : (face : Face) → AreValid (shapes_of face)
+unfolding shapes_of
+font_valid face g x e =
+    let m = bind_ok (map_fault Font (metrics_of face g)) _ x e in
+    let bytes = bind_ok (map_fault Font (glyph_bytes_of face g)) _ x m.2 in
+    let glyph = bind_ok (map_fault Glyph (glyph_of bytes.0 g)) _ x bytes.2 in
+    let P : glyf.Glyph → Type 0 = λ glyph. IsValid glyph in
+    subst P (ap (λ (y : ShapeView). y.glyph) (ok_injective _ _ glyph.2))
+    (read_valid bytes.0 g glyph.0 (map_fault_ok Glyph (glyph_of bytes.0 g) glyph.0 glyph.1))
 
 component_kept : (root : ℕ) (count counted : Count) → one_component root count ≡ Ok counted → counted.points ≡ count.points
 unfolding one_component
@@ -79,13 +95,13 @@ points_counted root n count counted h =
     let e : count.points + n ≡ counted.points = ap (λ (c : Count). c.points) (ok_injective _ _ r.1) in
     (e, omega arith)
 
-simple_counted : (s : Scale) (hinted : Bool) (root : ℕ) (m : Metrics) (shape : SimpleView) (count : Count) (r : Made × Count)
+simple_counted : (s : Scale) (hinted : Bool) (root : ℕ) (m : Bearings) (shape : SimpleView) (count : Count) (r : Made × Count)
     → AreEnds 0 shape.ends (length shape.points) → simple_made s hinted root m shape count ≡ Ok r → IsCounted count r.0 r.1
 unfolding simple_made
 simple_counted s hinted root m shape count r a h =
     let b = bind_ok (more_points root (length shape.points) count)
     (λ counted. Ok
-    (record { zone = zone_of_simple s shape; phantoms = phantoms_of s hinted shape.x_min m; wish = None }, counted)) r h in
+    (record { zone = zone_of_simple s shape; phantoms = phantoms_from s hinted m.origin m.advance; wish = None }, counted)) r h in
     let c = points_counted root (length shape.points) count b.0 b.1 in
     let n : length (map (scaled_point s) shape.points) ≡ length shape.points = length-map shape.points (scaled_point s) in
     let P : Made × Count → Type 0 = λ q. IsCounted count q.0 q.1 in
@@ -161,7 +177,7 @@ components_joined s hinted make g (component ∷ components) base count r all lo
     let two = rest.points in
     record { points = omega arith; few = rest.few; contours = rest.contours }
 
-made_counted : (h : Hinting) (s : Scale) (root : ℕ) (make : Maker) (g : ℕ) (m : Metrics) (glyph : glyf.Glyph) (count : Count)
+made_counted : (h : Hinting) (s : Scale) (root : ℕ) (make : Maker) (g : ℕ) (m : Bearings) (glyph : glyf.Glyph) (count : Count)
     (r : Made × Count)
     → KeepsShape h → AllCounted make → count.points ≤ max_points → IsValid glyph → made_of h s root make g m glyph count ≡ Ok r
     → IsCounted count r.0 r.1
@@ -174,48 +190,42 @@ made_counted h s root make g m (Simple shape) count r keeps all low valid e =
     run_counted h g shape.code count b.0 r keeps (simple_counted s h.on root m shape count b.0 valid b.1) b.2
 made_counted h s root make g m (Composite assembly) count r keeps all low valid e =
     let b = bind_ok (with_components s h.on make g assembly.components
-    (record { zone = empty_figure; phantoms = phantoms_of s h.on assembly.x_min m; wish = None }) count)
+    (record { zone = empty_figure; phantoms = phantoms_from s h.on m.origin m.advance; wish = None }) count)
     (run_on h g assembly.code) r e in
     let j = components_joined s h.on make g assembly.components
-    (record { zone = empty_figure; phantoms = phantoms_of s h.on assembly.x_min m; wish = None }) count b.0 all low refl b.1 in
+    (record { zone = empty_figure; phantoms = phantoms_from s h.on m.origin m.advance; wish = None }) count b.0 all low refl b.1 in
     let n = j.points in
     run_counted h g assembly.code count b.0 r keeps (record { points = omega arith; few = j.few; contours = j.contours }) b.2
 
-assembled_counted : (h : Hinting) (face : Face) (s : Scale) (root : ℕ) (make : Maker) (g : ℕ) (count : Count) (r : Made × Count)
-    → KeepsShape h → AllCounted make → count.points ≤ max_points → assembled h face s root make g count ≡ Ok r
-    → IsCounted count r.0 r.1
+assembled_counted : (h : Hinting) (font : Shapes) (s : Scale) (root : ℕ) (make : Maker) (g : ℕ) (count : Count) (r : Made × Count)
+    → KeepsShape h → AreValid font → AllCounted make → count.points ≤ max_points
+    → assembled h font s root make g count ≡ Ok r → IsCounted count r.0 r.1
 unfolding assembled
-assembled_counted h face s root make g count r keeps all low e =
-    let m = bind_ok (map_fault Font (metrics_of face g))
-    (λ m. map_fault Font (glyph_bytes_of face g) >>= λ bytes. map_fault Glyph
-    (glyph_of bytes g) >>= λ glyph. made_of h s root make g m glyph count) r e in
-    let bytes = bind_ok (map_fault Font (glyph_bytes_of face g))
-    (λ bytes. map_fault Glyph (glyph_of bytes g) >>= λ glyph. made_of h s root make g m.0 glyph count) r m.2 in
-    let glyph = bind_ok (map_fault Glyph (glyph_of bytes.0 g)) (λ glyph. made_of h s root make g m.0 glyph count) r bytes.2 in
-    made_counted h s root make g m.0 glyph.0 count r keeps all low
-    (read_valid bytes.0 g glyph.0 (map_fault_ok Glyph (glyph_of bytes.0 g) glyph.0 glyph.1)) glyph.2
+assembled_counted h font s root make g count r keeps valid all low e =
+    let shape = bind_ok (font g) (λ shape. made_of h s root make g shape.bearings shape.glyph count) r e in
+    made_counted h s root make g shape.0.bearings shape.0.glyph count r keeps all low (valid g shape.0 shape.1) shape.2
 
-component_counted : (h : Hinting) (face : Face) (s : Scale) (root levels : ℕ) → KeepsShape h
-    → AllCounted (component h face s root levels)
+component_counted : (h : Hinting) (font : Shapes) (s : Scale) (root levels : ℕ) → KeepsShape h → AreValid font
+    → AllCounted (component h font s root levels)
 unfolding component
-component_counted h face s root zero keeps g count r low e = absurd (cc)
-component_counted h face s root (suc levels) keeps g count r low e =
+component_counted h font s root zero keeps valid g count r low e = absurd (cc)
+component_counted h font s root (suc levels) keeps valid g count r low e =
     let b =
-    bind_ok (one_component root count) (λ counted. assembled h face s root (component h face s root levels) g counted) r e in
+    bind_ok (one_component root count) (λ counted. assembled h font s root (component h font s root levels) g counted) r e in
     let same = component_kept root count b.0 b.1 in
-    let w = assembled_counted h face s root (component h face s root levels) g b.0 r keeps
-    (component_counted h face s root levels keeps) (omega arith) b.2 in
+    let w = assembled_counted h font s root (component h font s root levels) g b.0 r keeps valid
+    (component_counted h font s root levels keeps valid) (omega arith) b.2 in
     let n = w.points in
     record { points = omega arith; few = w.few; contours = w.contours }
 
 -- an assembled root is sound
-pub root_sound : (h : Hinting) (face : Face) (s : Scale) (g : ℕ) (made : Made × Usage) → KeepsShape h
-    → root_made h face s g ≡ Ok made → IsSound made.0
+pub root_sound : (h : Hinting) (font : Shapes) (s : Scale) (g : ℕ) (made : Made × Usage) → KeepsShape h → AreValid font
+    → root_made h font s g ≡ Ok made → IsSound made.0
 unfolding root_made
-root_sound h face s g made keeps e =
-    let b = bind_ok (assembled h face s g (component h face s g max_depth) g nothing_counted) (λ m. Ok (m.0, m.1.usage)) made e in
-    let w = assembled_counted h face s g (component h face s g max_depth) g nothing_counted b.0 keeps
-    (component_counted h face s g max_depth keeps) (omega arith) b.1 in
+root_sound h font s g made keeps valid e =
+    let b = bind_ok (assembled h font s g (component h font s g max_depth) g nothing_counted) (λ m. Ok (m.0, m.1.usage)) made e in
+    let w = assembled_counted h font s g (component h font s g max_depth) g nothing_counted b.0 keeps valid
+    (component_counted h font s g max_depth keeps valid) (omega arith) b.1 in
     let n = w.points in
     let f = w.few in
     let P : Made × Usage → Type 0 = λ m. IsSound m.0 in

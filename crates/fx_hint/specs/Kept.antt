@@ -6,6 +6,7 @@ use Rattle.fx_glyf.specs.declared.glyph.Glyph.TheVariants.{Simple}
 use Rattle.fx_glyf.specs.Shapes.{SimpleView}
 use Rattle.fx_glyf.specs.Glyphs.{glyph_of}
 use Rattle.fx_scale.specs.declared.scale.Scale.{Scale}
+use Rattle.fx_vary.specs.Shape.{own_bearings}
 use Rattle.fx_machine.specs.declared.usage.Usage.{Usage}
 use Rattle.fx_hint.specs.declared.made.Made.{Made}
 use Rattle.fx_hint.specs.Hinting.{Hinting}
@@ -17,7 +18,7 @@ use Rattle.fx_hint.specs.Runs.{ProgramRun}
 pub record IsMadeAlone (h : Hinting) (s : Scale) (g : ℕ) (m : Metrics) (bytes : List ℕ) (made : Made) (usage : Usage) : Type 0 where
   pub shape : SimpleView
   pub read : glyph_of bytes g ≡ Ok (Simple shape)
-  pub ran : h.run g shape.code (scaled_simple s h.on m shape) ≡ Ok (made, usage)
+  pub ran : h.run g shape.code (scaled_simple s h.on (own_bearings m (Simple shape)) shape) ≡ Ok (made, usage)
 
 -- what is kept of a simple glyph: what it was made from, and what it became
 pub record KeptGlyphView : Type 0 where

@@ -1,6 +1,7 @@
 pub mod Limits
 pub mod Faults
 pub mod Placing
+pub mod Shapes
 pub mod Hinting
 pub mod Programmed
 pub mod Outlines

@@ -1,20 +1,19 @@
 -- The outline of a glyph at a size, by recursion on components, or the first cause why there is none (OpenType, `glyf`).
-use Rattle.std.specs.Prelude.{ℕ, zero, suc, ◌+◌, ◌≤◌, List, [], ◌∷◌, map, length, ℤ, pos, Bool, nat_lt, nat_le, Option, None, Result, Ok, Err}
+use Rattle.std.specs.Prelude.{ℕ, zero, suc, ◌+◌, ◌≤◌, List, [], ◌∷◌, map, length, ℤ, Bool, nat_lt, nat_le, Option, None, Result, Ok, Err}
 use Rattle.fx_fixed.specs.Numbers.{difference_of}
 use Rattle.fx_fixed.specs.Chain.{◌>>=◌, refuse, map_fault}
-use Rattle.fx_sfnt.specs.declared.records.Metrics.{Metrics}
+use Rattle.fx_vary.specs.declared.metrics.Bearings.{Bearings}
 use Rattle.fx_sfnt.specs.Tables.{Face}
-use Rattle.fx_sfnt.specs.Glyphs.{metrics_of, glyph_bytes_of}
+use Rattle.fx_hint.specs.Shapes.{Shapes, shapes_of}
 use Rattle.fx_glyf.specs.declared.component.Component.{Component}
 use Rattle.fx_glyf.specs.declared.glyph.Glyph as glyf
 use Rattle.fx_glyf.specs.declared.glyph.Glyph.TheVariants.{Empty, Simple, Composite}
 use Rattle.fx_glyf.specs.Shapes.{SimpleView}
-use Rattle.fx_glyf.specs.Glyphs.{glyph_of}
 use Rattle.fx_zone.specs.declared.point.ZonePoint.{ZonePoint}
 use Rattle.fx_zone.specs.Figures.{empty_figure}
 use Rattle.fx_scale.specs.declared.scale.Scale.{Scale}
 use Rattle.fx_scale.specs.Scaling.{scale_of}
-use Rattle.fx_scale.specs.Phantoms.{phantoms_of}
+use Rattle.fx_scale.specs.Phantoms.{phantoms_from}
 use Rattle.fx_scale.specs.Zones.{zone_of_simple}
 use Rattle.fx_gstate.specs.declared.scan.ScanType.{ScanType}
 use Rattle.fx_machine.specs.declared.halt.MachineFault.{MachineFault}
@@ -26,7 +25,7 @@ use Rattle.fx_hint.specs.declared.made.Made.{Made}
 use Rattle.fx_outline.specs.declared.points.OutlinePoint.{OutlinePoint}
 use Rattle.fx_hint.specs.declared.glyph_outline.GlyphOutline.{GlyphOutline}
 use Rattle.fx_hint.specs.declared.fault.HintFault.{HintFault}
-use Rattle.fx_hint.specs.declared.fault.HintFault.TheVariants.{Font, Glyph, ComponentDepth, TooManyComponents, TooManyPoints}
+use Rattle.fx_hint.specs.declared.fault.HintFault.TheVariants.{ComponentDepth, TooManyComponents, TooManyPoints}
 use Rattle.fx_hint.specs.declared.fault.HintFault.TheVariants.{Halted, OutOfMemory}
 use Rattle.fx_outline.specs.Limits.{max_points}
 use Rattle.fx_hint.specs.Limits.{max_components, max_depth}
@@ -53,12 +52,12 @@ more_points root n count = do
   Ok (record count { points = count.points + n })
 
 -- a simple glyph scaled: its points and its phantom points
-abbrev pub scaled_simple : Scale → Bool → Metrics → SimpleView → Made
+abbrev pub scaled_simple : Scale → Bool → Bearings → SimpleView → Made
 scaled_simple s hinted m shape =
-    record { zone = zone_of_simple s shape; phantoms = phantoms_of s hinted shape.x_min m; wish = None }
+    record { zone = zone_of_simple s shape; phantoms = phantoms_from s hinted m.origin m.advance; wish = None }
 
 -- a simple glyph, before its program runs
-unfoldable pub simple_made : Scale → Bool → ℕ → Metrics → SimpleView → Count → Result (Made × Count) HintFault
+unfoldable pub simple_made : Scale → Bool → ℕ → Bearings → SimpleView → Count → Result (Made × Count) HintFault
 simple_made s hinted root m shape count = do
   counted ← more_points root (length shape.points) count
   Ok (scaled_simple s hinted m shape, counted)
@@ -78,39 +77,37 @@ with_components s hinted make g (component ∷ components) base count = do
   with_components s hinted make g components more made.1
 
 -- a glyph that has been read, assembled by its rule
-unfoldable pub made_of : Hinting → Scale → ℕ → Maker → ℕ → Metrics → glyf.Glyph → Count → Result (Made × Count) HintFault
+unfoldable pub made_of : Hinting → Scale → ℕ → Maker → ℕ → Bearings → glyf.Glyph → Count → Result (Made × Count) HintFault
 made_of h s root make g m Empty count =
-    Ok (record { zone = empty_figure; phantoms = phantoms_of s h.on (pos 0) m; wish = None }, count)
+    Ok (record { zone = empty_figure; phantoms = phantoms_from s h.on m.origin m.advance; wish = None }, count)
 made_of h s root make g m (Simple shape) count = do
   made ← simple_made s h.on root m shape count
   run_on h g shape.code made
 made_of h s root make g m (Composite assembly) count = do
   made ← with_components s h.on make g assembly.components
-      (record { zone = empty_figure; phantoms = phantoms_of s h.on assembly.x_min m; wish = None }) count
+      (record { zone = empty_figure; phantoms = phantoms_from s h.on m.origin m.advance; wish = None }) count
   run_on h g assembly.code made
 
--- a glyph: its number and bytes, its reading, and then itself
-unfoldable pub assembled : Hinting → Face → Scale → ℕ → Maker → ℕ → Count → Result (Made × Count) HintFault
-assembled h face s root make g count = do
-  m ← map_fault Font (metrics_of face g)
-  bytes ← map_fault Font (glyph_bytes_of face g)
-  glyph ← map_fault Glyph (glyph_of bytes g)
-  made_of h s root make g m glyph count
+-- a glyph: what it is in the font, and then itself
+unfoldable pub assembled : Hinting → Shapes → Scale → ℕ → Maker → ℕ → Count → Result (Made × Count) HintFault
+assembled h font s root make g count = do
+  shape ← font g
+  made_of h s root make g shape.bearings shape.glyph count
 
 -- a component, with this number of levels allowed from here on
-unfoldable pub component : Hinting → Face → Scale → ℕ → ℕ → ℕ → Count → Result (Made × Count) HintFault
-component h face s root zero = λ g count. Err (ComponentDepth g)
-component h face s root (suc levels) = λ g count.
-    one_component root count >>= λ counted. assembled h face s root (component h face s root levels) g counted
+unfoldable pub component : Hinting → Shapes → Scale → ℕ → ℕ → ℕ → Count → Result (Made × Count) HintFault
+component h font s root zero = λ g count. Err (ComponentDepth g)
+component h font s root (suc levels) = λ g count.
+    one_component root count >>= λ counted. assembled h font s root (component h font s root levels) g counted
 
 -- before the walk
 abbrev pub nothing_counted : Count
 nothing_counted = record { records = 0; points = 0; usage = no_usage }
 
 -- a root, at depth 0: components lie at depth max_depth at most; and what all programs together used up
-unfoldable pub root_made : Hinting → Face → Scale → ℕ → Result (Made × Usage) HintFault
-root_made h face s g = do
-  made ← assembled h face s g (component h face s g max_depth) g nothing_counted
+unfoldable pub root_made : Hinting → Shapes → Scale → ℕ → Result (Made × Usage) HintFault
+root_made h font s g = do
+  made ← assembled h font s g (component h font s g max_depth) g nothing_counted
   Ok (made.0, made.1.usage)
 
 -- what a glyph's outline is seen as
@@ -147,7 +144,7 @@ moved_outline_of made usage = record {
 -- the outline of a glyph as hinting makes it
 unfoldable pub outline_with : Hinting → Face → ℕ → ℕ → Result GlyphOutlineView HintFault
 outline_with h face ppem g = do
-  made ← root_made h face (scale_of face ppem) g
+  made ← root_made h (shapes_of face) (scale_of face ppem) g
   Ok (moved_outline_of made.0 made.1)
 
 -- the outline of a glyph with hinting off

@@ -1,22 +1,21 @@
 -- The programs that are run for a glyph, in their order: the recursion on components again, which lists each program it starts.
-use Rattle.std.specs.Prelude.{◌≡◌, ℕ, zero, suc, ◌+◌, List, [], ◌∷◌, ◌++◌, pos, Bool, Option, Some, None, Result, Ok, Err}
+use Rattle.std.specs.Prelude.{◌≡◌, ℕ, zero, suc, ◌+◌, List, [], ◌∷◌, ◌++◌, Bool, Option, Some, None, Result, Ok, Err}
 use Rattle.fx_fixed.specs.Chain.{◌>>=◌, map_fault}
-use Rattle.fx_sfnt.specs.declared.records.Metrics.{Metrics}
+use Rattle.fx_vary.specs.declared.metrics.Bearings.{Bearings}
 use Rattle.fx_sfnt.specs.Tables.{Face}
-use Rattle.fx_sfnt.specs.Glyphs.{metrics_of, glyph_bytes_of}
+use Rattle.fx_hint.specs.Shapes.{Shapes, shapes_of}
 use Rattle.fx_glyf.specs.declared.component.Component.{Component}
 use Rattle.fx_glyf.specs.declared.glyph.Glyph as glyf
 use Rattle.fx_glyf.specs.declared.glyph.Glyph.TheVariants.{Empty, Simple, Composite}
 use Rattle.fx_glyf.specs.Shapes.{SimpleView}
-use Rattle.fx_glyf.specs.Glyphs.{glyph_of}
 use Rattle.fx_zone.specs.Figures.{empty_figure}
 use Rattle.fx_scale.specs.declared.scale.Scale.{Scale}
-use Rattle.fx_scale.specs.Phantoms.{phantoms_of}
+use Rattle.fx_scale.specs.Phantoms.{phantoms_from}
 use Rattle.fx_hint.specs.declared.component.ComponentOf.{ComponentOf}
 use Rattle.fx_hint.specs.declared.count.Count.{Count}
 use Rattle.fx_hint.specs.declared.made.Made.{Made}
 use Rattle.fx_hint.specs.declared.fault.HintFault.{HintFault}
-use Rattle.fx_hint.specs.declared.fault.HintFault.TheVariants.{Font, Glyph, ComponentDepth, OutOfMemory}
+use Rattle.fx_hint.specs.declared.fault.HintFault.TheVariants.{ComponentDepth, OutOfMemory}
 use Rattle.fx_hint.specs.Limits.{max_depth}
 use Rattle.fx_hint.specs.Hinting.{Hinting}
 use Rattle.fx_hint.specs.Placing.{with_component}
@@ -50,7 +49,7 @@ logged_one root count = do
   counted ← after count.1 (one_component root count.0)
   Ok (counted, count.1)
 
-unfoldable pub logged_simple : Scale → Bool → ℕ → Metrics → SimpleView → Logged → Result (Made × Logged) LoggedFault
+unfoldable pub logged_simple : Scale → Bool → ℕ → Bearings → SimpleView → Logged → Result (Made × Logged) LoggedFault
 logged_simple s hinted root m shape count = do
   made ← after count.1 (simple_made s hinted root m shape count.0)
   Ok (made.0, (made.1, count.1))
@@ -73,31 +72,29 @@ logged_components s hinted make g before (component ∷ components) base count =
   more ← after made.1.1 (with_component s hinted g component base made.0)
   logged_components s hinted make g (before + 1) components more made.1
 
-unfoldable pub logged_made_of : Hinting → Scale → ℕ → LoggedMaker → Option ComponentOf → ℕ → Metrics → glyf.Glyph → Logged
+unfoldable pub logged_made_of : Hinting → Scale → ℕ → LoggedMaker → Option ComponentOf → ℕ → Bearings → glyf.Glyph → Logged
     → Result (Made × Logged) LoggedFault
 logged_made_of h s root make component g m Empty count =
-    Ok (record { zone = empty_figure; phantoms = phantoms_of s h.on (pos 0) m; wish = None }, count)
+    Ok (record { zone = empty_figure; phantoms = phantoms_from s h.on m.origin m.advance; wish = None }, count)
 logged_made_of h s root make component g m (Simple shape) count = do
   made ← logged_simple s h.on root m shape count
   logged_run h component g shape.code made
 logged_made_of h s root make component g m (Composite assembly) count = do
   made ← logged_components s h.on make g 0 assembly.components
-      (record { zone = empty_figure; phantoms = phantoms_of s h.on assembly.x_min m; wish = None }) count
+      (record { zone = empty_figure; phantoms = phantoms_from s h.on m.origin m.advance; wish = None }) count
   logged_run h component g assembly.code made
 
-unfoldable pub logged_assembled : Hinting → Face → Scale → ℕ → LoggedMaker → Option ComponentOf → ℕ → Logged
+unfoldable pub logged_assembled : Hinting → Shapes → Scale → ℕ → LoggedMaker → Option ComponentOf → ℕ → Logged
     → Result (Made × Logged) LoggedFault
-logged_assembled h face s root make component g count = do
-  m ← after count.1 (map_fault Font (metrics_of face g))
-  bytes ← after count.1 (map_fault Font (glyph_bytes_of face g))
-  glyph ← after count.1 (map_fault Glyph (glyph_of bytes g))
-  logged_made_of h s root make component g m glyph count
+logged_assembled h font s root make component g count = do
+  shape ← after count.1 (font g)
+  logged_made_of h s root make component g shape.bearings shape.glyph count
 
-unfoldable pub logged_component : Hinting → Face → Scale → ℕ → ℕ → Option ComponentOf → ℕ → Logged
+unfoldable pub logged_component : Hinting → Shapes → Scale → ℕ → ℕ → Option ComponentOf → ℕ → Logged
     → Result (Made × Logged) LoggedFault
-logged_component h face s root zero = λ component g count. Err (ComponentDepth g, count.1)
-logged_component h face s root (suc levels) = λ component g count.
-    logged_one root count >>= λ counted. logged_assembled h face s root (logged_component h face s root levels) component g counted
+logged_component h font s root zero = λ component g count. Err (ComponentDepth g, count.1)
+logged_component h font s root (suc levels) = λ component g count.
+    logged_one root count >>= λ counted. logged_assembled h font s root (logged_component h font s root levels) component g counted
 
 -- the programs of an answer
 abbrev pub runs_in : {A : Type 0} → Result (A × Logged) LoggedFault → List ProgramRun
@@ -107,7 +104,8 @@ runs_in (Err e) = e.1
 -- the programs that are run for a root, in their order: those of components before that of the composite; the last may halt
 unfoldable pub runs_of : Hinting → Face → Scale → ℕ → List ProgramRun
 runs_of h face s g =
-    runs_in (logged_assembled h face s g (logged_component h face s g max_depth) None g (nothing_counted, []))
+    runs_in (logged_assembled h (shapes_of face) s g (logged_component h (shapes_of face) s g max_depth) None g
+    (nothing_counted, []))
 
 -- some of these programs, from the first on
 abbrev pub AreFirst : List ProgramRun → List ProgramRun → Type 0
@@ -136,6 +134,6 @@ plain (Err e) = Err e.0
 -- the recursion that lists programs is that of the outline, in all else
 abbrev pub ListsTheWalk : Type 0
 ListsTheWalk =
-    (h : Hinting) (face : Face) (s : Scale) (root : ℕ) (which : Option ComponentOf) (g : ℕ) (count : Logged)
-    → plain (logged_assembled h face s root (logged_component h face s root max_depth) which g count)
-    ≡ assembled h face s root (component h face s root max_depth) g count.0
+    (h : Hinting) (font : Shapes) (s : Scale) (root : ℕ) (which : Option ComponentOf) (g : ℕ) (count : Logged)
+    → plain (logged_assembled h font s root (logged_component h font s root max_depth) which g count)
+    ≡ assembled h font s root (component h font s root max_depth) g count.0

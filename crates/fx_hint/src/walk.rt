@@ -1,9 +1,13 @@
 //! The walk over components.
 
-ghost use Rattle.std.specs.Prelude.{[], ◌∷◌, ◌≡◌, ◌+◌, ◌<◌, ◌≤◌, false, None, Ok, Err, IfOk, OnOk, length};
+ghost use Rattle.std.specs.Prelude.{[], ◌∷◌, ◌≡◌, unsigned_abs, ◌+◌, ◌<◌, ◌≤◌, false, None, Ok, Err, IfOk, OnOk, length};
 ghost use Rattle.fx_fixed.specs.Chain.{GivesUnless};
 ghost use Rattle.fx_zone.specs.Figures.{empty_figure};
-ghost use Rattle.fx_scale.specs.Phantoms.{phantoms_of};
+ghost use Rattle.fx_sfnt.specs.Glyphs.{metrics_of, glyph_bytes_of};
+ghost use Rattle.fx_glyf.specs.Glyphs.{glyph_of};
+ghost use Rattle.fx_vary.specs.Shape.{own_bearings};
+ghost use Rattle.fx_scale.specs.Phantoms.{phantoms_from};
+ghost use Rattle.fx_hint.specs.Shapes.{shapes_of};
 ghost use Rattle.fx_hint.specs.Faults.{Fails};
 ghost use Rattle.fx_hint.specs.declared.fault.HintFault.{HintFault as TheFault};
 ghost use Rattle.fx_hint.specs.Kept.{IsKeptFor};
@@ -28,15 +32,21 @@ use fx_glyf::{Component, Composite, Glyph, Simple, read};
 use fx_machine::Usage;
 use fx_scale::{PhantomPoints, Scale, fill_zone};
 use fx_sfnt::{Font, Metrics};
+use fx_vary::{Bearings, own_bearings};
 use std::alloc::Global;
 use std::mem;
 
 /// Makes a glyph one without points yet. Its lists keep their memory.
-fn make_empty(made: &mut Made, scale: &Scale, hinted: bool, x_min: i16, metrics: Metrics)
-    ensures { made.new ≡ record { zone = empty_figure; phantoms = phantoms_of scale.now hinted x_min metrics; wish = None } }
+fn make_empty(made: &mut Made, scale: &Scale, hinted: bool, bearings: Bearings)
+    requires { unsigned_abs bearings.origin ≤ 65535 }
+    ensures { made.new ≡ record {
+      zone = empty_figure;
+      phantoms = phantoms_from scale.now hinted bearings.origin bearings.advance;
+      wish = None;
+    } }
 {
     made.zone.clear();
-    made.phantoms = PhantomPoints::of_glyph(scale, hinted, x_min, metrics);
+    made.phantoms = PhantomPoints::of_bearings(scale, hinted, bearings.origin, bearings.advance);
     made.wish = None;
 }
 
@@ -84,14 +94,15 @@ impl<'w, 'a> Walk<'w, 'a> {
     fn simple_made(
         &self,
         hinted: bool,
-        metrics: Metrics,
+        bearings: Bearings,
         simple: &Simple<'_>,
         count: &mut Count,
         made: &mut Made,
     ) -> Result<(), HintFault>
+        requires { unsigned_abs bearings.origin ≤ 65535 }
         ensures value { GivesUnless Fails (λ _. (made.new, count.new)) result
-            (simple_made self.now.scale.now hinted self.now.root metrics simple.now count.old) }
-        ensures made { OnOk result (made.new ≡ scaled_simple self.now.scale.now hinted metrics simple.now) }
+            (simple_made self.now.scale.now hinted self.now.root bearings simple.now count.old) }
+        ensures made { OnOk result (made.new ≡ scaled_simple self.now.scale.now hinted bearings simple.now) }
         ensures records { OnOk result (count.new.records ≡ count.old.records) }
         ensures points { OnOk result (CountsPoints count.old made.new count.new) }
     {
@@ -104,7 +115,12 @@ impl<'w, 'a> Walk<'w, 'a> {
         )?;
         let points = made.zone.len();
         count.more_points(self.root, points)?;
-        made.phantoms = PhantomPoints::of_glyph(self.scale, hinted, simple.x_min(), metrics);
+        made.phantoms = PhantomPoints::of_bearings(
+            self.scale,
+            hinted,
+            bearings.origin,
+            bearings.advance,
+        );
         made.wish = None;
         Ok(())
     }
@@ -123,10 +139,30 @@ impl<'w, 'a> Walk<'w, 'a> {
         Ok(())
     }
 
+    /// What a glyph is: its reading, its origin and its advance.
+    #[tactic(auto, unfolding(crate::specs::Shapes::shapes_of))]
+    fn shape(
+        &self,
+        g: u16,
+        metrics: Metrics,
+        bytes: &'a [u8],
+    ) -> Result<(Glyph<'a>, Bearings), HintFault>
+        requires metrics { Ok metrics ≡ metrics_of self.now.font.now g }
+        requires bytes { Ok bytes.now ≡ glyph_bytes_of self.now.font.now g }
+        ensures value { GivesUnless Fails (λ x. record { glyph = x.0; bearings = x.1 }) result
+            (shapes_of self.now.font.now g) }
+        ensures own { IfOk result (λ x. (Ok x.0 ≡ glyph_of bytes.now g) × (x.1 ≡ own_bearings metrics x.0)) }
+        ensures origin { IfOk result (λ x. unsigned_abs x.1.origin ≤ 65535) }
+    {
+        let glyph = read(bytes, g)?;
+        let bearings = own_bearings(metrics, &glyph);
+        Ok((glyph, bearings))
+    }
+
     /// A glyph begun: its number and bytes, its reading; and then it is assembled, or a composite that is open. A component that is
     /// simple may be recalled, or kept.
     #[inline(always)]
-    #[tactic(auto, unfolding(crate::specs::inner::Steps::begun, crate::specs::inner::Steps::begun_by, crate::specs::inner::RunSteps::begun_runs, crate::specs::inner::RunSteps::begun_by_runs))]
+    #[tactic(auto, unfolding(crate::specs::inner::Steps::begun, crate::specs::inner::Steps::begun_by, crate::specs::inner::RunSteps::begun_runs, crate::specs::inner::RunSteps::begun_by_runs, crate::specs::Shapes::shapes_of))]
     fn begun<H: Hinter>(
         &self,
         hinter: &mut H,
@@ -141,9 +177,11 @@ impl<'w, 'a> Walk<'w, 'a> {
         ensures kept { H.hinting hinter.new ≡ H.hinting hinter.old }
         ensures held { IsKeptFor H.Leads (H.hinting hinter.old) kept.new }
         ensures leads { HasRun H.Leads hinter.old hinter.new result
-            (begun_runs (H.hinting hinter.old) self.now.font.now self.now.scale.now self.now.root node.component node.g count.old) }
+            (begun_runs (H.hinting hinter.old) (shapes_of self.now.font.now) self.now.scale.now self.now.root node.component node.g
+            count.old) }
         ensures value { GivesUnless Fails (λ assembly. (step_of node assembly made.new, count.new)) result
-            (begun (H.hinting hinter.old) self.now.font.now self.now.scale.now self.now.root node.component node.g count.old) }
+            (begun (H.hinting hinter.old) (shapes_of self.now.font.now) self.now.scale.now self.now.root node.component node.g
+            count.old) }
         ensures records { OnOk result (count.new.records ≡ count.old.records) }
         ensures points { OnOk result (CountsPoints count.old made.new count.new) }
     {
@@ -162,13 +200,14 @@ impl<'w, 'a> Walk<'w, 'a> {
                 return Ok(None);
             }
         }
-        match read(bytes, node.g)? {
+        let (glyph, bearings) = self.shape(node.g, metrics, bytes)?;
+        match glyph {
             Glyph::Empty => {
-                make_empty(made, self.scale, hinter.is_on(), 0, metrics);
+                make_empty(made, self.scale, hinter.is_on(), bearings);
                 Ok(None)
             }
             Glyph::Simple(simple) => {
-                self.simple_made(hinter.is_on(), metrics, &simple, count, made)?;
+                self.simple_made(hinter.is_on(), bearings, &simple, count, made)?;
                 let usage = run_on(hinter, node, simple.code(), made, count)?;
                 if node.component.is_some() {
                     kept.keep(&input, made, usage);
@@ -176,7 +215,7 @@ impl<'w, 'a> Walk<'w, 'a> {
                 Ok(None)
             }
             Glyph::Composite(composite) => {
-                make_empty(made, self.scale, hinter.is_on(), composite.x_min(), metrics);
+                make_empty(made, self.scale, hinter.is_on(), bearings);
                 Ok(Some(composite))
             }
         }
@@ -199,11 +238,11 @@ impl<'w, 'a> Walk<'w, 'a> {
         ensures kept { H.hinting hinter.new ≡ H.hinting hinter.old }
         ensures held { IsKeptFor H.Leads (H.hinting hinter.old) kept.new }
         ensures leads { HasRun H.Leads hinter.old hinter.new result
-            (begun_component_runs (H.hinting hinter.old) self.now.font.now self.now.scale.now self.now.root levels node.component
-            node.g count.old) }
+            (begun_component_runs (H.hinting hinter.old) (shapes_of self.now.font.now) self.now.scale.now self.now.root levels
+            node.component node.g count.old) }
         ensures value { GivesUnless Fails (λ assembly. (step_of node assembly made.new, count.new)) result
-            (begun_component (H.hinting hinter.old) self.now.font.now self.now.scale.now self.now.root levels node.component
-            node.g count.old) }
+            (begun_component (H.hinting hinter.old) (shapes_of self.now.font.now) self.now.scale.now self.now.root levels
+            node.component node.g count.old) }
         ensures records { OnOk result ((count.new.records ≡ count.old.records + 1) × (count.new.records ≤ max_components)) }
         ensures points { OnOk result (CountsPoints count.old made.new count.new) }
         ensures level { OnOk result (0 < levels) }
@@ -232,8 +271,8 @@ impl<'w, 'a> Walk<'w, 'a> {
         ensures kept { H.hinting hinter.new ≡ H.hinting hinter.old }
         ensures held { IsKeptFor H.Leads (H.hinting hinter.old) kept.new }
         ensures walks { Walks H.Leads hinter.old hinter.new made.new result count.new
-            (logged_assembled (H.hinting hinter.old) self.now.font.now self.now.scale.now self.now.root
-            (logged_component (H.hinting hinter.old) self.now.font.now self.now.scale.now self.now.root max_depth) None
+            (logged_assembled (H.hinting hinter.old) (shapes_of self.now.font.now) self.now.scale.now self.now.root
+            (logged_component (H.hinting hinter.old) (shapes_of self.now.font.now) self.now.scale.now self.now.root max_depth) None
             self.now.root (count.old, [])) }
     {
         let root = Node {
@@ -267,10 +306,10 @@ impl<'w, 'a> Walk<'w, 'a> {
         ensures held { IsKeptFor H.Leads (H.hinting hinter.old) kept.new }
         ensures counted { OnOk result (IsCounted below.new inner.new.before inner.new.base count.new) }
         ensures fewer { OnOk result (steps_left below.new count.new < steps_left below.old count.old) }
-        ensures steps { StepsTo H.Leads (H.hinting hinter.old) self.now.font.now self.now.scale.now self.now.root hinter.old
-            hinter.new below.old (record inner.old { left = component ∷ inner.old.left }) count.old result
-            (λ _ start due. Stands H.Leads (H.hinting hinter.old) self.now.font.now self.now.scale.now self.now.root start
-            hinter.new below.new inner.new count.new due) }
+        ensures steps { StepsTo H.Leads (H.hinting hinter.old) (shapes_of self.now.font.now) self.now.scale.now self.now.root
+            hinter.old hinter.new below.old (record inner.old { left = component ∷ inner.old.left }) count.old result
+            (λ _ start due. Stands H.Leads (H.hinting hinter.old) (shapes_of self.now.font.now) self.now.scale.now self.now.root
+            start hinter.new below.new inner.new count.new due) }
     {
         let levels = below.levels();
         inner.before += 1;
@@ -316,10 +355,10 @@ impl<'w, 'a> Walk<'w, 'a> {
         ensures kept { H.hinting hinter.new ≡ H.hinting hinter.old }
         ensures counted { IfOk result (λ ended. ended ≡ false → IsCounted below.new inner.new.before inner.new.base count.new) }
         ensures fewer { IfOk result (λ ended. ended ≡ false → steps_left below.new count.new < steps_left below.old count.old) }
-        ensures steps { StepsTo H.Leads (H.hinting hinter.old) self.now.font.now self.now.scale.now self.now.root hinter.old
-            hinter.new below.old inner.old count.old result
-            (λ ended start due. StandsUnless H.Leads (H.hinting hinter.old) self.now.font.now self.now.scale.now self.now.root
-            ended start hinter.new below.new inner.new count.new due) }
+        ensures steps { StepsTo H.Leads (H.hinting hinter.old) (shapes_of self.now.font.now) self.now.scale.now self.now.root
+            hinter.old hinter.new below.old inner.old count.old result
+            (λ ended start due. StandsUnless H.Leads (H.hinting hinter.old) (shapes_of self.now.font.now) self.now.scale.now
+            self.now.root ended start hinter.new below.new inner.new count.new due) }
     {
         let code = inner.glyph.code();
         run_on(hinter, inner.node, code, &mut inner.base, count)?;
@@ -359,7 +398,7 @@ impl<'w, 'a> Walk<'w, 'a> {
         ensures kept { H.hinting hinter.new ≡ H.hinting hinter.old }
         ensures held { IsKeptFor H.Leads (H.hinting hinter.old) kept.new }
         ensures walks { Walks H.Leads hinter.old hinter.new made.new result count.new
-            (logged_left (H.hinting hinter.old) self.now.font.now self.now.scale.now self.now.root max_depth
+            (logged_left (H.hinting hinter.old) (shapes_of self.now.font.now) self.now.scale.now self.now.root max_depth
             (opened (record { component = None; g = self.now.root }) glyph.entry made.old) (count.old, [])) }
     {
         let on = hinter.is_on();

@@ -21,19 +21,19 @@ use Rattle.fx_vary.specs.Faults.{Fails}
 use Rattle.fx_vary.specs.declared.fault.ShapeFault.{ShapeFault}
 use Rattle.fx_vary.specs.declared.metrics.Bearings.{Bearings}
 
-fronted : {A : Type 0} (o : Option A) (r : Option (List A)) (qs : List A)
+first_moved : {A : Type 0} (o : Option A) (r : Option (List A)) (qs : List A)
     → option_and_then (λ q. option_map (λ t. q ∷ t) r) o ≡ Some qs
     → (q : A) × (t : List A) × (r ≡ Some t) × (qs ≡ q ∷ t)
-fronted None r qs e = absurd (cc e)
-fronted (Some q) None qs e = absurd (cc e)
-fronted (Some q) (Some t) qs e = (q, t, refl, cc)
+first_moved None r qs e = absurd (cc e)
+first_moved (Some q) None qs e = absurd (cc e)
+first_moved (Some q) (Some t) qs e = (q, t, refl, cc)
 
 many : {A : Type 0} (move : ℤ → ℤ → A → Option A) (xs ys : List GivenPoint) (k : ℕ) (ps qs : List A)
     → all_moved move xs ys k ps ≡ Some qs → length qs ≡ length ps
 unfolding all_moved
 many move xs ys k [] qs e = let f : qs ≡ [] = cc in ap length f
 many move xs ys k (p ∷ ps) qs e =
-    let f = fronted (move (sum_at xs k) (sum_at ys k) p) (all_moved move xs ys (suc k) ps) qs e in
+    let f = first_moved (move (sum_at xs k) (sum_at ys k) p) (all_moved move xs ys (suc k) ps) qs e in
     ap length f.3 ∙ ap suc (many move xs ys (suc k) ps f.1 f.2)
 
 -- a glyph with the contours of a simple one, and as many points

@@ -81,8 +81,8 @@ impl<'s, 'a> FontAt<'s, 'a> {
         self.instance.is_some()
     }
 
-    /// The origin and the advance of a glyph, by its number, its metrics and its reading. At a place it also makes lists the glyph's
-    /// points or components; or it returns the first fault.
+    /// The origin and the advance of a glyph, by its number, its metrics and its reading. At a place it also makes lists the
+    /// glyph's points or components; or it returns the first fault.
     #[tactic(auto, using(crate::proofs::AllPoints::by_lists, crate::proofs::AllPoints::by_own), unfolding(crate::specs::FontAt::shape_by))]
     pub fn bearings(
         &self,

@@ -1,6 +1,6 @@
 -- Where the walk over components stands, and its steps.
 use Rattle.std.specs.Prelude.{◌≡◌, ℕ, ◌+◌, ◌-◌, ◌*◌, ◌≤◌, Bool, true, false, List, [], ◌∷◌, length, Result, Ok, Err, MatchResult}
-use Rattle.fx_sfnt.specs.Tables.{Face}
+use Rattle.fx_hint.specs.Shapes.{Shapes}
 use Rattle.fx_scale.specs.declared.scale.Scale.{Scale}
 use Rattle.fx_outline.specs.Limits.{max_points}
 use Rattle.fx_hint.specs.declared.below.OpenComposite.{OpenComposite}
@@ -38,12 +38,12 @@ pub record IsCounted (below : List Waiting) (before : ℕ) (base : Made) (count 
 abbrev pub steps_left : List Waiting → Count → ℕ
 steps_left below count = 2 * (max_components - count.records) + length below
 
-module _ {S : Type 0} (Leads : S → List ProgramRun → S → Type 0) (h : Hinting) (face : Face) (s : Scale) (root : ℕ) where
+module _ {S : Type 0} (Leads : S → List ProgramRun → S → Type 0) (h : Hinting) (font : Shapes) (s : Scale) (root : ℕ) where
   -- from `start` the walk has come to `now` by some programs, and what the root gives by the steps that are left is due
   abbrev pub Stands : S → S → List Waiting → OpenComposite → Count → LoggedOutcome → Type 0
   Stands start now below c count due = HasRunSome Leads start now
-      (λ runs. logged_rest_of h face s root max_depth below
-      (logged_left h face s root (max_depth - length below) c (count, runs)) ≡ due)
+      (λ runs. logged_rest_of h font s root max_depth below
+      (logged_left h font s root (max_depth - length below) c (count, runs)) ≡ due)
 
   -- the same, unless the root is assembled
   abbrev pub StandsUnless : Bool → S → S → List Waiting → OpenComposite → Count → LoggedOutcome → Type 0

@@ -1,16 +1,14 @@
 -- The walk over components by its steps, with the composites that are open.
-use Rattle.std.specs.Prelude.{◌≡◌, ◌+◌, ◌≤◌, ℕ, zero, suc, length, pos, Bool, Option, Some, None, Result, Ok, Err}
-use Rattle.fx_fixed.specs.Chain.{◌>>=◌, map_fault}
-use Rattle.fx_sfnt.specs.declared.records.Metrics.{Metrics}
-use Rattle.fx_sfnt.specs.Tables.{Face}
-use Rattle.fx_sfnt.specs.Glyphs.{metrics_of, glyph_bytes_of}
+use Rattle.std.specs.Prelude.{◌≡◌, ◌+◌, ◌≤◌, ℕ, zero, suc, length, Bool, Option, Some, None, Result, Ok, Err}
+use Rattle.fx_fixed.specs.Chain.{◌>>=◌}
+use Rattle.fx_vary.specs.declared.metrics.Bearings.{Bearings}
+use Rattle.fx_hint.specs.Shapes.{Shapes}
 use Rattle.fx_glyf.specs.declared.glyph.Glyph as glyf
 use Rattle.fx_glyf.specs.declared.glyph.Glyph.TheVariants.{Empty, Simple, Composite}
 use Rattle.fx_glyf.specs.Shapes.{CompositeView}
-use Rattle.fx_glyf.specs.Glyphs.{glyph_of}
 use Rattle.fx_zone.specs.Figures.{empty_figure}
 use Rattle.fx_scale.specs.declared.scale.Scale.{Scale}
-use Rattle.fx_scale.specs.Phantoms.{phantoms_of}
+use Rattle.fx_scale.specs.Phantoms.{phantoms_from}
 use Rattle.fx_hint.specs.declared.component.ComponentOf.{ComponentOf}
 use Rattle.fx_hint.specs.declared.component.Node.{Node}
 use Rattle.fx_hint.specs.declared.count.Count.{Count}
@@ -18,7 +16,7 @@ use Rattle.fx_machine.specs.declared.usage.Usage.{Usage}
 use Rattle.fx_hint.specs.declared.made.Made.{Made}
 use Rattle.fx_hint.specs.declared.below.OpenComposite.{OpenComposite}
 use Rattle.fx_hint.specs.declared.fault.HintFault.{HintFault}
-use Rattle.fx_hint.specs.declared.fault.HintFault.TheVariants.{Font, Glyph, ComponentDepth}
+use Rattle.fx_hint.specs.declared.fault.HintFault.TheVariants.{ComponentDepth}
 use Rattle.fx_machine.specs.Usages.{usage_with}
 use Rattle.fx_hint.specs.Hinting.{Hinting}
 use Rattle.fx_outline.specs.Limits.{max_points}
@@ -39,9 +37,9 @@ opened node assembly base = record {
   base = base;
 }
 
-abbrev pub opened_as : Scale → Bool → Option ComponentOf → ℕ → Metrics → CompositeView → Step
+abbrev pub opened_as : Scale → Bool → Option ComponentOf → ℕ → Bearings → CompositeView → Step
 opened_as s hinted component g m assembly = Open (opened (record { component = component; g = g }) assembly
-    (record { zone = empty_figure; phantoms = phantoms_of s hinted assembly.x_min m; wish = None }))
+    (record { zone = empty_figure; phantoms = phantoms_from s hinted m.origin m.advance; wish = None }))
 
 -- what a glyph is after its beginning: a composite if there is one, and what was made
 abbrev pub step_of : Node → Option CompositeView → Made → Step
@@ -49,10 +47,10 @@ step_of node None made = Assembled made
 step_of node (Some assembly) made = Open (opened node assembly made)
 
 -- a glyph that has been read, begun: an empty or a simple one is assembled, a composite is open
-unfoldable pub begun_by : Hinting → Scale → ℕ → Option ComponentOf → ℕ → Metrics → glyf.Glyph → Count
+unfoldable pub begun_by : Hinting → Scale → ℕ → Option ComponentOf → ℕ → Bearings → glyf.Glyph → Count
     → Result (Step × Count) HintFault
 begun_by h s root component g m Empty count =
-    Ok (Assembled (record { zone = empty_figure; phantoms = phantoms_of s h.on (pos 0) m; wish = None }), count)
+    Ok (Assembled (record { zone = empty_figure; phantoms = phantoms_from s h.on m.origin m.advance; wish = None }), count)
 begun_by h s root component g m (Simple shape) count = do
   made ← simple_made s h.on root m shape count
   ran ← run_on h g shape.code made
@@ -60,12 +58,10 @@ begun_by h s root component g m (Simple shape) count = do
 begun_by h s root component g m (Composite assembly) count = Ok (opened_as s h.on component g m assembly, count)
 
 -- a glyph, begun: its number and bytes, its reading
-unfoldable pub begun : Hinting → Face → Scale → ℕ → Option ComponentOf → ℕ → Count → Result (Step × Count) HintFault
-begun h face s root component g count = do
-  m ← map_fault Font (metrics_of face g)
-  bytes ← map_fault Font (glyph_bytes_of face g)
-  glyph ← map_fault Glyph (glyph_of bytes g)
-  begun_by h s root component g m glyph count
+unfoldable pub begun : Hinting → Shapes → Scale → ℕ → Option ComponentOf → ℕ → Count → Result (Step × Count) HintFault
+begun h font s root component g count = do
+  shape ← font g
+  begun_by h s root component g shape.bearings shape.glyph count
 
 -- an assembled glyph whose points, and what its program used up, are counted
 unfoldable pub counted_made : ℕ → Made → Usage → Count → Result (Step × Count) HintFault
@@ -74,10 +70,10 @@ counted_made root made usage count = do
   Ok (Assembled made, record counted { usage = usage_with counted.usage usage })
 
 -- a component, begun, with this number of levels allowed from here on
-unfoldable pub begun_component : Hinting → Face → Scale → ℕ → ℕ → Option ComponentOf → ℕ → Count → Result (Step × Count) HintFault
-begun_component h face s root zero component g count = Err (ComponentDepth g)
-begun_component h face s root (suc levels) component g count =
-    one_component root count >>= λ counted. begun h face s root component g counted
+unfoldable pub begun_component : Hinting → Shapes → Scale → ℕ → ℕ → Option ComponentOf → ℕ → Count → Result (Step × Count) HintFault
+begun_component h font s root zero component g count = Err (ComponentDepth g)
+begun_component h font s root (suc levels) component g count =
+    one_component root count >>= λ counted. begun h font s root component g counted
 
 -- the points of a glyph that is begun were counted, and all are at most max_points
 abbrev pub CountsPoints : Count → Made → Count → Type 0

@@ -3,12 +3,12 @@ use Rattle.std.proofs.lemmas.Result.{err_from_is_err_and}
 use Rattle.fx_hint.specs.Runs.{runs_of}
 use Rattle.fx_hint.proofs.Forgetting.{root_walked, outline_walked}
 use Rattle.fx_hint.proofs.RunLaws.{walk_leads, first_same}
-use Rattle.fx_hint.proofs.Sound.{root_sound}
+use Rattle.fx_hint.proofs.Sound.{font_valid, root_sound}
 use Rattle.fx_hint.proofs.outlines.outline_in.Goals as goal
 
 pub moved_outline-requires : goal.moved_outline-requires
 moved_outline-requires g c =
-    root_sound _ _ _ _ _ c.law_keeps_shape.ensures
+    root_sound _ _ _ _ _ c.law_keeps_shape.ensures (font_valid _)
     (root_walked g.H.Hinter.Leads _ _ _ _ _ _ _ _ _ (rw c.none.ensures at c.in_ok-assembled.ensures.walks))
 
 pub returns-in_err-assembled-clause-leads : goal.returns-in_err-assembled-clause-leads
