@@ -1,5 +1,5 @@
 // How a font looks at a size: its cell, and how many letters fall apart there. Python's `Font.looks` counts the same.
-import { DONE, DROPOUTS, HINTED } from './mkstrike.js';
+import { CAREFUL, DONE, DROPOUTS, HINTED } from './mkstrike.js';
 import { charsOf } from './outputs.js';
 
 const LETTERS = charsOf('30-39, 41-5a, 61-7a');
@@ -51,7 +51,7 @@ export function wholeLetters(mkstrike) {
 // What a size is by its letters and digits: the cell, how many there are, and how many fall apart or vanish, as they are drawn, and if that is
 // another way without drop-out control. `glyphsOf` draws them.
 export function looksOf(look, heights, whole, glyphsOf) {
-  const made = glyphsOf(look, LETTERS), mode = look.mode & HINTED;
+  const made = glyphsOf(look, LETTERS), mode = look.mode & (HINTED | CAREFUL);
   const apartIn = (parts) => [...parts].filter(([code, count]) => count > (whole.get(code) ?? 0) || (!count && whole.get(code))).length;
   if (made.refused) return null;
   return {
