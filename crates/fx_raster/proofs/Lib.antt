@@ -8,4 +8,5 @@ pub mod Inside
 pub mod Shaping
 pub mod Existing
 pub mod Moved
+pub mod Framed
 pub mod Gapping

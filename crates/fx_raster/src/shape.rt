@@ -90,9 +90,9 @@ impl Shape {
         Ok(bitmap)
     }
 
-    /// The work of drawing the shape, in pieces, in the rows and columns that they cross, and in pieces asked for gaps; none if it
-    /// is more than `most`. The count stops there. Where the nearer pixel closes gaps, a scan finds them, unless the pieces alone
-    /// are too much.
+    /// The work of drawing the shape, in rows of its frame, in pieces, in the rows and columns that they cross, and in pieces asked
+    /// for gaps; none if it is more than `most`. The count stops there. Where the nearer pixel closes gaps, a scan finds them, unless
+    /// the frame and the pieces alone are too much.
     pub fn work_within<S: Scan>(
         &self,
         alloc: Global,

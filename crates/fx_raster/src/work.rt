@@ -1,14 +1,14 @@
 //! How much work it is to draw a shape, counted before it is drawn.
-ghost use Rattle.std.specs.Prelude.{◌≡◌, ◌+◌, ◌≤◌, ◌<◌, ◌^◌, map, IfOk};
+ghost use Rattle.std.specs.Prelude.{◌≡◌, ◌+◌, ◌≤◌, ◌<◌, ◌^◌, List, map, IfOk};
 ghost use Rattle.std.specs.List.{sum_by};
 ghost use Rattle.fx_winding.specs.Frames.{HasMargin};
 ghost use Rattle.fx_winding.specs.Outside.{AreOfOutline};
-ghost use Rattle.fx_winding.specs.Winding.{place_of, span_of};
+ghost use Rattle.fx_winding.specs.Winding.{Span, place_of, span_of};
 ghost use Rattle.fx_contour.specs.Frames.{NothingOutsideFrame};
 ghost use Rattle.fx_dropout.specs.Work.{closing_work, HoldsGaps};
 ghost use Rattle.fx_dropout.specs.declared.chooser.Closing.TheVariants.{Nearer};
 ghost use Rattle.fx_raster.specs.Frames.{IsFramedBy};
-ghost use Rattle.fx_raster.specs.Work.{bridging_work, columns_of, control_of, crossed, drawing_work, piece_work, rows_of, within};
+ghost use Rattle.fx_raster.specs.Work.{bridging_work, columns_of, control_of, crossed, drawing_work, frame_work, piece_work, rows_of, within};
 
 use crate::rule::Rule;
 use fx_dropout::{Closing, add_within, closing_work};
@@ -17,6 +17,9 @@ use std::alloc::{AllocError, Global};
 
 /// The units of 1/128 pixel in a pixel.
 const PIXEL: usize = 128;
+
+/// The pixels of a row that count as much as a piece.
+const ROW_PART: usize = 256;
 
 /// The rows, or columns, that the points with three coordinates, in 1/128 pixel, cross.
 fn crossed(a: i32, b: i32, c: i32) -> usize
@@ -64,12 +67,23 @@ fn piece_work(rule: Rule, piece: &Piece) -> usize
     }
 }
 
-/// The work of all pieces; none if it is more than `most`. It stops at the first piece that goes past that.
-fn pieces_work(pieces: &Pieces, rule: Rule, most: usize) -> Option<usize>
-    ensures { result ≡ within most (sum_by (piece_work rule) (map span_of pieces.now)) }
+/// The work of a frame: for each row 1 for each 256 columns, or a part of so many.
+fn frame_work(frame: Option<Frame>) -> usize
+    ensures { (rule : Rule) (ss : List Span) → IsFramedBy rule frame ss → result ≡ frame_work rule ss }
 {
-    let mut work = 0;
-    // `work` is that of the pieces before this one, and no more than `most`.
+    match frame {
+        Some(f) => f.height as usize * (f.width as usize).div_ceil(ROW_PART),
+        None => 0,
+    }
+}
+
+/// The work before and that of all pieces; none if it is more than `most`. It stops at the first piece that goes past that.
+fn pieces_within(pieces: &Pieces, rule: Rule, before: usize, most: usize) -> Option<usize>
+    requires { before ≤ most }
+    ensures { result ≡ within most (before + sum_by (piece_work rule) (map span_of pieces.now)) }
+{
+    let mut work = before;
+    // `work` is that before and of the pieces before this one, and no more than `most`.
     'pieces: for piece in pieces.as_slice() {
         work = add_within(work, piece_work(rule, piece), most)?;
     }
@@ -155,6 +169,16 @@ fn bridging_within<S: Scan>(
     }
 }
 
+/// The work of the frame of a shape and of its pieces; none if it is more than `most`.
+fn shape_within(pieces: &Pieces, rule: Rule, frame: Option<Frame>, most: usize) -> Option<usize>
+    requires framed { IsFramedBy rule frame (map span_of pieces.now) }
+    ensures { result ≡ within most (frame_work rule (map span_of pieces.now)
+        + sum_by (piece_work rule) (map span_of pieces.now)) }
+{
+    let work = add_within(0, frame_work(frame), most)?;
+    pieces_within(pieces, rule, work, most)
+}
+
 /// The work of drawing the pieces of a shape; none if it is more than `most`.
 pub(crate) fn work_within<S: Scan>(
     alloc: Global,
@@ -170,7 +194,7 @@ pub(crate) fn work_within<S: Scan>(
     requires framed { IsFramedBy rule frame (map span_of pieces.now) }
     ensures { IfOk result (λ w. w ≡ within most (drawing_work rule (map span_of pieces.now))) }
 {
-    match pieces_work(pieces, rule, most) {
+    match shape_within(pieces, rule, frame, most) {
         Some(work) => bridging_within(alloc, scan, pieces, rule, frame, scratch, work, most),
         None => Ok(None),
     }

@@ -85,7 +85,10 @@ fn random_outlines(rt: HostRuntime) -> Result<(), Fail> {
     let mut random = Random::new(1);
     for k in 0..200 {
         let outline = random.outline(rt.alloc(), 1 + k % 2)?;
-        assert!(rt; scans_the_same(rt.alloc(), &outline, random.frame())?, "{k}");
+        assert!(rt;
+            scans_the_same(rt.alloc(), &outline, random.frame())?,
+            "{k}"
+        );
         assert!(rt; closes_the_same(rt.alloc(), &outline)?, "{k}");
     }
     Ok(())
@@ -97,7 +100,10 @@ fn random_thin_outlines(rt: HostRuntime) -> Result<(), Fail> {
     let mut random = Random::new(1);
     for k in 0..120 {
         let outline = random.thin_outline(rt.alloc(), 1 + k % 4)?;
-        assert!(rt; scans_the_same(rt.alloc(), &outline, random.frame())?, "{k}");
+        assert!(rt;
+            scans_the_same(rt.alloc(), &outline, random.frame())?,
+            "{k}"
+        );
         assert!(rt; closes_the_same(rt.alloc(), &outline)?, "{k}");
     }
     Ok(())
