@@ -158,17 +158,17 @@ sides_are rule f s ss i j m all =
     )) in
     rw (columns, rows) refl
 
-first_pixel : (f : Frame) → 0 < f.height → 0 < f.width → IsInFrame f f.left f.bottom
-first_pixel f h k = record { column = first_in f.left f.width k; row = first_in f.bottom f.height h }
+corner_in : (f : Frame) → 0 < f.height → 0 < f.width → IsInFrame f f.left f.bottom
+corner_in f h k = record { column = first_in f.left f.width k; row = first_in f.bottom f.height h }
 
 pub framed_work : (rule : Rule) (f : Frame) (ss : List Span) → IsFramedBy rule (Some f) ss
     → rows_work f.height f.width ≡ frame_work rule ss
 framed_work Centres f [] h =
-    no_rows f.height f.width (λ r c. ((h.pixels f.left f.bottom).0 (first_pixel f r c)).left)
+    no_rows f.height f.width (λ r c. ((h.pixels f.left f.bottom).0 (corner_in f r c)).left)
 framed_work (Bridged closing) f [] h =
-    no_rows f.height f.width (λ r c. ((h.0 f.left f.bottom).0 (first_pixel f r c)).0)
+    no_rows f.height f.width (λ r c. ((h.0 f.left f.bottom).0 (corner_in f r c)).0)
 framed_work Centres f (s ∷ ss) h =
-    sides_are Centres f s ss f.left f.bottom (first_pixel f h.rows h.columns) (λ i j.
+    sides_are Centres f s ss f.left f.bottom (corner_in f h.rows h.columns) (λ i j.
     let p = h.pixels i j in let b = in_box s ss i j in (λ a. b.0 (p.0 a), λ a. p.1 (b.1 a)))
 framed_work (Bridged closing) f (s ∷ ss) h =
     let some = some_pixel_is_kept (s ∷ ss) (omega arith) in

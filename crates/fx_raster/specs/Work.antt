@@ -47,7 +47,7 @@ abbrev pub side_of : Rule → ℤ → ℤ → ℕ
 side_of Centres low high = centres_in low high
 side_of (Bridged closing) low high = max 1 (centres_in low high)
 
--- the work of so many rows and columns: for each row 1 for each 256 columns, or a part of so many
+-- the work of rows and columns: for each row 1 for each 256 columns or fewer
 abbrev pub rows_work : ℕ → ℕ → ℕ
 rows_work rows columns = rows * div_ceil columns 256
 

@@ -91,8 +91,8 @@ impl Shape {
     }
 
     /// The work of drawing the shape, in rows of its frame, in pieces, in the rows and columns that they cross, and in pieces asked
-    /// for gaps; none if it is more than `most`. The count stops there. Where the nearer pixel closes gaps, a scan finds them, unless
-    /// the frame and the pieces alone are too much.
+    /// for gaps; none if it is more than `most`. The count stops there. Where the nearer pixel closes gaps, a scan finds them,
+    /// unless the frame and the pieces alone are too much.
     pub fn work_within<S: Scan>(
         &self,
         alloc: Global,

@@ -67,7 +67,7 @@ fn piece_work(rule: Rule, piece: &Piece) -> usize
     }
 }
 
-/// The work of a frame: for each row 1 for each 256 columns, or a part of so many.
+/// The work of a frame: for each row 1 for each 256 columns or fewer.
 fn frame_work(frame: Option<Frame>) -> usize
     ensures { (rule : Rule) (ss : List Span) → IsFramedBy rule frame ss → result ≡ frame_work rule ss }
 {

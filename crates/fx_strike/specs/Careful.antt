@@ -1,9 +1,9 @@
 -- Characters that take too much work, which a careful strike refuses. The measure and the limits are this project's own.
 use Rattle.std.specs.Prelude.{ℕ, ◌+◌, ◌-◌, ◌^◌, nat_lt, min, Bool, true, if◌then◌else◌, List, [], ◌∷◌, ◌++◌}
-use Rattle.std.specs.Prelude.{Option, Some, None, is_none}
-use Rattle.fx_sfnt.specs.Tables.{Face}
+use Rattle.std.specs.Prelude.{Option, Some, None, codes, length}
+use Rattle.fx_sfnt.specs.Tables.{Face, table_or_empty}
 use Rattle.fx_machine.specs.Known.{Known, machine_events}
-use Rattle.fx_machine.specs.Work.{paid, work_from}
+use Rattle.fx_machine.specs.Work.{work_from}
 use Rattle.fx_machine.specs.declared.work.WorkBudget.{WorkBudget}
 use Rattle.fx_hint.specs.Bounded.{left_after}
 use Rattle.fx_strike.specs.Characters.{Mapped}
@@ -51,10 +51,14 @@ abbrev pub programs_left : Option Known → Face → ℕ → ℕ → ℕ → Opt
 programs_left None face ppem glyph work = Some work
 programs_left (Some known) face ppem glyph work = left_after known (so_much work) face ppem glyph
 
--- `fpgm` and `prep` do more work than they may
+-- the bytes of `fpgm` and `prep`
+abbrev pub prelude_size : Face → ℕ
+prelude_size face = length (table_or_empty face (codes "fpgm")) + length (table_or_empty face (codes "prep"))
+
+-- `fpgm` and `prep` do more work than they may. Their bytes count too, whatever runs of them
 unfoldable pub is_font_over : Face → ℕ → Bool
 is_font_over face ppem =
-    is_none (paid (work_from (so_much character_work).trail (machine_events face ppem)) (so_much character_work).left)
+    nat_lt character_work (prelude_size face + work_from (so_much character_work).trail (machine_events face ppem))
 
 -- ---- the characters of a call
 

@@ -18,11 +18,11 @@ use fx_request::{OnRefused, Refusal};
 use std::alloc::AllocError;
 use std::mem;
 
-/// The most work that the programs of a character may do, and `fpgm` and `prep` together: instructions, numbers of the stack,
-/// points visited and bytes searched.
+/// The most work that the programs of a character may do: instructions, numbers of the stack, points visited and bytes searched.
+/// So much `fpgm` and `prep` may do together, whose bytes count too.
 pub(crate) const CHARACTER_WORK: usize = 1_048_576;
 
-/// The most work that the drawing of a character may be: pieces, the rows and columns that they cross, and gaps.
+/// The most work that the drawing of a character may be: rows of its frame, pieces, the rows and columns that they cross, and gaps.
 const CHARACTER_DRAWING: usize = 1_048_576;
 
 /// What each character of a call adds to the work that programs may do.

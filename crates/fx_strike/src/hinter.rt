@@ -1,11 +1,12 @@
 //! What hints the glyphs of a strike.
-ghost use Rattle.std.specs.Prelude.{◌≡◌, true, Some, None, is_none, IfOk};
+ghost use Rattle.std.specs.Prelude.{◌≡◌, ◌<◌, ◌^◌, length, true, Some, None, is_none, IfOk};
 ghost use Rattle.fx_fixed.specs.Chain.{map_fault, GivesUnless};
+ghost use Rattle.fx_sfnt.specs.Tables.{table_or_empty};
 ghost use Rattle.fx_machine.specs.Known.{machine_of};
 ghost use Rattle.fx_request.specs.Faults.{of_machine};
 ghost use Rattle.fx_hint.specs.Faults as hint;
 ghost use Rattle.fx_hint.specs.Outlines.{view_of_glyph_outline, outline_with};
-ghost use Rattle.fx_strike.specs.Careful.{character_work, programs_left, so_much};
+ghost use Rattle.fx_strike.specs.Careful.{character_work, prelude_size, programs_left, so_much};
 ghost use Rattle.fx_strike.specs.Numbered.{is_work_over};
 ghost use Rattle.fx_strike.specs.Strike.{hinting_by, machine_for, machine_within, prelude_by, wish_in, Fails};
 
@@ -18,6 +19,7 @@ use fx_hint::{
 };
 use fx_machine::{Machine, Unwatched, Usage, Watching, WorkBudget};
 use fx_request::{Mode, Refusal};
+use fx_sfnt::Font;
 use std::alloc::{AllocError, Global};
 use std::marker::Model;
 
@@ -200,11 +202,32 @@ pub fn machine_at<'a>(alloc: Global, opened: &Opened<'a>) -> Result<Machine<'a>,
     Ok(Machine::new(alloc, opened.font.shared(), opened.ppem, &mut Unwatched)?)
 }
 
-/// The same if `fpgm` and `prep` do no more work than a character's programs may.
+/// The bytes of a table that may be absent.
+fn table_size(font: &Font<'_>, tag: [u8; 4]) -> usize
+    ensures value { result ≡ length (table_or_empty font.now tag) }
+    ensures size { result < 2 ^ 32 }
+{
+    match font.table(tag) {
+        Some(table) => table.len(),
+        None => 0,
+    }
+}
+
+/// The bytes of `fpgm` and `prep`.
+fn prelude_size(font: &Font<'_>) -> usize
+    ensures { result ≡ prelude_size font.now }
+{
+    table_size(font, *b"fpgm") + table_size(font, *b"prep")
+}
+
+/// The same if `fpgm` and `prep` do no more work than a character's programs may, and their bytes count too.
 fn careful_machine<'a>(alloc: Global, opened: &Opened<'a>) -> Result<Machine<'a>, Refusal>
     ensures { GivesUnless Fails (λ m. m.known) result (machine_within opened.now.font opened.now.ppem true) }
 {
-    let mut budget = WorkBudget::new(CHARACTER_WORK);
+    let Some(left) = CHARACTER_WORK.checked_sub(prelude_size(&opened.font)) else {
+        return Err(Refusal::TooMuchWork);
+    };
+    let mut budget = WorkBudget::new(left);
     let made = Machine::new(alloc, opened.font.shared(), opened.ppem, &mut budget);
     if budget.stops() {
         return Err(Refusal::TooMuchWork);

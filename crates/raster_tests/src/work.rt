@@ -25,8 +25,8 @@ fn takes(alloc: Global, points: &[OutlinePoint; 4], rule: Rule, work: usize) -> 
 }
 
 /// A triangle of two pixels each way, its level side in two pieces. Its frame has two rows, which take 1 each. Each piece of the
-/// level side takes 1, a row and two columns; the slanted side 1, three rows and three columns; the upright side 1, three rows and a
-/// column. There is no gap: the sides pass between centres that the triangle covers.
+/// level side takes 1, a row and two columns; the slanted side 1, three rows and three columns; the upright side 1, three rows and
+/// a column. There is no gap: the sides pass between centres that the triangle covers.
 #[test]
 fn triangle(rt: HostRuntime) -> Result<(), Fail> {
     let points = [on(0, 0), on(64, 0), on(128, 0), on(0, 128)];
@@ -37,8 +37,8 @@ fn triangle(rt: HostRuntime) -> Result<(), Fail> {
 }
 
 /// A stroke of 10/64 pixel between two centres, a pixel high. Each upright side takes 1, two rows and a column, each level one 1, a
-/// row and a column. No centre lies in its box, so it has no frame without drop-out control; with it there is one row, which takes 1.
-/// The gap in that row takes 1 and the two upright sides: the level ones lie below and above it.
+/// row and a column. No centre lies in its box, so it has no frame without drop-out control; with it there is one row, which takes
+/// 1. The gap in that row takes 1 and the two upright sides: the level ones lie below and above it.
 #[test]
 fn stroke(rt: HostRuntime) -> Result<(), Fail> {
     let points = [on(70, 0), on(80, 0), on(80, 64), on(70, 64)];
