@@ -31,9 +31,9 @@ drawing_share = 2 ^ 15
 abbrev pub most_saved : ℕ
 most_saved = 2 ^ 32
 
--- the budget that a call begins with
+-- the budget that a call begins with: as much of either as eight characters may take
 abbrev pub first_budget : Budget
-first_budget = record { programs = character_work; drawing = character_drawing }
+first_budget = record { programs = 2 ^ 23; drawing = 2 ^ 23 }
 
 -- a budget with the shares of one character more
 abbrev pub filled : Budget → Budget

@@ -25,6 +25,9 @@ pub(crate) const CHARACTER_WORK: usize = 1_048_576;
 /// The most work that the drawing of a character may be: rows of its frame, pieces, the rows and columns that they cross, and gaps.
 const CHARACTER_DRAWING: usize = 1_048_576;
 
+/// What a call begins with of either: as much as eight characters may take.
+const FIRST: usize = 8_388_608;
+
 /// What each character of a call adds to the work that programs may do.
 const PROGRAMS_SHARE: usize = 32_768;
 
@@ -47,8 +50,8 @@ impl Budget {
         ensures { result ≡ first_budget }
     {
         Budget {
-            programs: CHARACTER_WORK,
-            drawing: CHARACTER_DRAWING,
+            programs: FIRST,
+            drawing: FIRST,
         }
     }
 
