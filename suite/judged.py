@@ -230,6 +230,7 @@ def drawn():
     yield "a dot", report.dots([[(3, 4, 1)]], 900, ({}, {})), (
         "<circle cx=3 cy=-4 r='10.0' fill='#345' stroke='#345' stroke-width='3.6'/>")
     yield "lines", report.lines([TRIANGLE], 600), "<path d='M0 0 L0 -64 L64 0 L0 0' fill=none stroke='#345' stroke-width='2.00'/>"
+    yield "a way", report.way_of([[8, 4, 1], [64, 0, 1], [0, 64, 0]]), "M8 -4 L64 0 Q0 -64 8 -4"
     yield "a refusal", report.figure("given", HALT, GLYPH, HALT), "<figure><figcaption>given</figcaption><pre>%s</pre></figure>" % (
         "{&#x27;refusal&#x27;: {&#x27;name&#x27;: &#x27;StackUnder&#x27;, &#x27;address&#x27;: 2}}")
 
@@ -288,7 +289,7 @@ def for_machines():
         for name in names:
             with open(name, encoding="utf-8") as file:
                 texts.append(file.read())
-    yield "the end of JSON", texts[0][-3:], "\n}\n"
+    yield "the first and the last line of JSON", (texts[0].split("\n")[:2], texts[0][-3:]), (["{", ' "tool": "tool",'], "\n}\n")
     yield "JSON", json.loads(texts[0]), {
         "tool": "tool", "cases": 5, "wrong": 2,
         "groups": {"one": {"passed": 1, "wrong": 1}, "two": {"own choice": 1, "wrong": 1, "unsupported": 1}},
@@ -362,6 +363,7 @@ def said():
         "(--report draws them)."]
     yield "one difference", text_of(run.show, results, 1)[0], "one/b: 1 points, by up to 1/64 pixel (a rule)"
     yield "no difference", text_of(run.show, results[:1], 9), []
+    yield from called(run, results)
     head = ["", "  wrong     own  cause, and the first case"]
     for lines, due in (([], ["      0       1  own choice: a choice (two/c)", "      2       0  unknown (one/b)",
                              "  unknown: one/b: 1 points, by up to 1/64 pixel", "  unknown: two/d: bits"]),
@@ -375,6 +377,22 @@ def said():
             file.write("".join(json.dumps(it) + "\n" for it in lines))
             file.flush()
             yield "causes", text_of(run.by_cause, file.name, results), head + due
+
+
+def called(run, results):
+    """What the runner does if only a tool is named, beside what is due: of twelve wrong answers ten are shown."""
+    wrong, arguments, asked = [results[1]] * 12, sys.argv, []
+    run.cases_of = lambda only: asked.append(only) or ["a case"] * len(given)
+    run.run_all = lambda *words: asked.extend(words) or given
+    sys.argv = ["run", "--with", "a tool"]
+    for given, due in ((wrong, 10), (wrong[:9], 9), (results[:1], 0)):
+        lines = text_of(lambda: asked.append(run.main()))
+        yield "how many are shown", sum(line.startswith("one/b: ") for line in lines), due
+        jobs, quiet = min(os.cpu_count() or 1, len(given)), not sys.stderr.isatty()
+        yield "what was asked for", asked[:], ["", "a tool", ["a case"] * len(given), jobs, quiet, False, 1 if due else 0]
+        yield "the last line", lines[-1], "%d cases, %d wrong, 0 own choice, 0 unsupported" % (len(given), len(given) if due else 0)
+        asked.clear()
+    sys.argv = arguments
 
 
 def text_of(function, *arguments):

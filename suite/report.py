@@ -113,7 +113,7 @@ def difference(expected, given):
     places = [place for answer in (expected, given) for place in extent({"bits": answer.get("bits")})]
     left, right = min(x for x, _ in places) - 32, max(x for x, _ in places) + 32
     low, high = min(y for _, y in places) - 32, max(y for _, y in places) + 32
-    size = max(right - left, high - low, 1)
+    size = max(right - left, high - low)
     kinds = ((one & other, "#c4c4c4"), (one - other, "#3b7dd8"), (other - one, "#d9534f"))
     body = "".join("<rect x=%d y=%d width=60 height=60 fill='%s'/>" % (64 * i + 2, -64 * (j + 1) + 2, colour)
                    for pixels_of, colour in kinds for i, j in sorted(pixels_of))
@@ -130,7 +130,7 @@ def figure(title, one, *both):
     places = [place for answer in both for place in extent(answer)]
     left, right = min(x for x, _ in places) - 32, max(x for x, _ in places) + 32
     low, high = min(y for _, y in places) - 32, max(y for _, y in places) + 32
-    size = max(right - left, high - low, 1)
+    size = max(right - left, high - low)
     width, height = SIDE * (right - left) / size, SIDE * (high - low) / size
     body = pixels(one) + only_here(one, both) + lines(one.get("outline", []), size) + dots(one.get("outline", []), size, both)
     return ("<figure><svg width=%d height=%d viewBox='%d %d %d %d' role=img aria-label='%s'>%s</svg>"

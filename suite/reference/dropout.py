@@ -13,9 +13,9 @@ def sign_of(p, q, d):
     """The sign of p + q * root(d), where d is no square if q is not 0."""
     if q == 0:
         return (p > 0) - (p < 0)
-    if p >= 0 and q > 0 or p > 0 and q >= 0:
+    if p >= 0 and q > 0:
         return 1
-    if p <= 0 and q < 0 or p < 0 and q <= 0:
+    if p <= 0 and q < 0:
         return -1
     order = p * p - q * q * d
     return ((order > 0) - (order < 0)) * (1 if p > 0 else -1)

@@ -91,9 +91,9 @@ def changes(before, after):
     for name, was, now in (("storage", before[2], after[2]), ("cvt", before[3], after[3])):
         if was != now:
             yield from ("%s %d %d %d" % (name, k, one, other) for k, (one, other) in enumerate(zip(was, now)) if one != other)
-    if before[4] != after[4]:
-        yield from ("%s %s %s" % (name, shown(one), shown(other)) for name, one, other in zip(STATE, before[4], after[4])
-                    if one != other)
+    for name, one, other in zip(STATE, before[4], after[4]):
+        if one != other:
+            yield "%s %s %s" % (name, shown(one), shown(other))
 
 
 class Traces(Maker):

@@ -2,7 +2,6 @@
 
 A normalized coordinate is rounded once, to 2.14. A scalar is rounded to 2^-42 after each axis, and an inferred delta to 2^-16.
 A sum of scalars times deltas is exact, and each coordinate, offset and control value is its nearest whole number. Halves go up."""
-import copy
 import struct
 from fractions import Fraction
 
@@ -78,11 +77,9 @@ class Varied(Font):
         exact = [[v + Fraction(more, ONE_SCALAR * ONE_DELTA) for v, more in zip(*both)] for both in zip(points, sums)]
         whole = [tuple(map(near_up, it)) for it in exact]
         left, right = (it[0] for it in exact[-PHANTOMS:][:2])
-        glyph = copy.copy(glyph)
         if isinstance(glyph, Simple):
             glyph.points = [(x, y, on) for (x, y), (_, _, on) in zip(whole, glyph.points)]
         elif glyph:
-            glyph.parts = [copy.copy(it) for it in glyph.parts]
             for part, place in zip(glyph.parts, whole):
                 part.args = place if part.flags & OFFSETS else part.args
         return glyph, -near_up(-left), max(0, near_up(right - left))
@@ -109,10 +106,8 @@ def axes_of(fvar):
 
 def maps_of(avar, count):
     """The pairs of `avar` of each axis, in 2.14."""
-    reader, maps = Reader(avar or bytes(8), 8, None), []
-    for _ in range(count):
-        maps.append([(reader.take("h"), reader.take("h")) for _ in range(reader.take("H"))] if avar else [])
-    return maps
+    reader = Reader(avar, 8, None)
+    return [[(reader.take("h"), reader.take("h")) for _ in range(reader.take("H"))] if avar else [] for _ in range(count)]
 
 
 def place_of(axes, maps, values):

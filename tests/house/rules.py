@@ -607,7 +607,7 @@ def readme_short(house):
     """README has at most 110 lines.
 
     It is for somebody who has two minutes; what they look up is on pages of its own."""
-    if house.exists("README.md") and house.text("README.md").count("\n") > PAGE:
+    if house.text("README.md").count("\n") > PAGE:
         yield "README.md", PAGE + 1, "%d lines" % house.text("README.md").count("\n")
 
 
@@ -668,8 +668,7 @@ def sentences(house, path):
         at = 0
         for end in [it.end() for it in re.finditer(r"(?<!\.)[.!?][\"')*\]]*(?=\s)", text)] + [len(text)]:
             said = text[at:end].split()
-            if said:
-                yield first + text[:at + len(text[at:end]) - len(text[at:end].lstrip())].count("\n"), said
+            yield first + text[:at + len(text[at:end]) - len(text[at:end].lstrip())].count("\n"), said
             at = end
 
 
@@ -698,7 +697,7 @@ def doors(house):
 
     A word is what is between backquotes; on the page it is what is between commas."""
     path = "docs/WORDS.md"
-    text = house.text(path) if house.exists(path) else ""
+    text = house.text(path)
     for number, line in enumerate(text.partition("## At the doors")[2].partition("\n## ")[0].split("\n"),
                                   text.partition("## At the doors")[0].count("\n") + 1):
         cells = [it.strip() for it in line.strip("|").split("|")]

@@ -308,3 +308,48 @@ def test_other_sources(field, made):
     (folder / "manifest").write_bytes(prebuilt.manifest_of(made[1]._replace(**{field: "0" * 64})))
     assert fault_of(folder) == "dist/%s is of other sources: tools/make_dist makes it anew" % name
     assert fault_of(folder, "--sources", "--stale") is None
+
+
+def test_said_of_builds(made, tmp_path_factory):
+    """What is said of files that were built here, of another kit, and of a dist/ without modules, or of none."""
+    folder, built = made[0], tmp_path_factory.mktemp("built")
+    for it in NAMES:
+        (built / it).write_bytes(it.encode())
+    sizes = [("mkstrike", 8), ("libmkstrike_c.a", 15), (prebuilt.ARM_ARCHIVE, 23), ("mkstrike.wasm", 13), ("program.wasm", 12)]
+    same = ["dist/%s is the proved build of these sources, byte for byte (%d bytes)" % it for it in sizes]
+    kept = "dist/libmkstrike_c.a is of these sources by its manifest, and was not built here"
+    options = zip(("--archive", "--arm", "--modules"), [built / NAMES[1], built / NAMES[2], built])
+    program, more = ["--program", str(built / "mkstrike")], [str(it) for pair in options for it in pair]
+    assert looked_at(folder, *program) == (None, "check_dist: %s; %s\n" % (same[0], kept))
+    assert looked_at(folder, *program, *more) == (None, "check_dist: %s\n" % "; ".join(same))
+    for name in ("mkstrike.html", *prebuilt.MODULES):
+        os.remove(folder / name)
+    without = made[1]._replace(kit="another", module_sources=None, module=None, program_module=None)
+    (folder / "manifest").write_bytes(prebuilt.manifest_of(without))
+    assert looked_at(folder, *program) == (None, "check_dist: %s; %s; %s; %s\n" % (
+        same[0], kept, "there is no dist/mkstrike.wasm: tools/make_dist --web makes it",
+        "dist/ was made with the kit another, and this one is kit"))
+    assert looked_at(folder / "none") == (None, "check_dist: there is no dist/, so there is nothing to check\n")
+
+
+def test_files_for_others(made, monkeypatch):
+    """Other tools get the program and the library if they are of these sources, each for itself."""
+    folder, manifest = made
+    gets = {"mkstrike": prebuilt.program_of_dist, "libmkstrike_c.a": prebuilt.library_of_dist}
+    monkeypatch.setattr(prebuilt, "DIST", str(folder))
+    for field, name in (("sources", "mkstrike"), ("library_sources", "libmkstrike_c.a")):
+        (folder / "manifest").write_bytes(prebuilt.manifest_of(manifest._replace(**{field: "0" * 64})))
+        for other, get in gets.items():
+            if other != name:
+                assert get() == other.encode()
+            else:
+                with pytest.raises(prebuilt.Fault) as found:
+                    get()
+                due = "dist/%s is of other sources: make it anew by tools/make_dist, or name the file" % name
+                assert str(found.value) == due
+    (folder / "libmkstrike_c.a").write_bytes(b"another")
+    with pytest.raises(prebuilt.Fault, match="^dist/libmkstrike_c.a is not the file"):
+        prebuilt.program_of_dist()
+    monkeypatch.setattr(prebuilt, "DIST", str(folder / "none"))
+    with pytest.raises(prebuilt.Fault, match="^there is no dist/: make it by tools/make_dist, or name the file$"):
+        prebuilt.program_of_dist()

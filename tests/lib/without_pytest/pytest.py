@@ -18,6 +18,7 @@ import sys
 import tempfile
 import time
 import traceback
+import types
 
 TOP = pathlib.Path(__file__).resolve().parents[3]
 
@@ -43,10 +44,12 @@ def fail(reason, pytrace=True):
 
 @contextlib.contextmanager
 def raises(expected, match=""):
-    """Expects an exception of a type, with a text that a pattern finds."""
+    """Expects an exception of a type, with a text that a pattern finds. It is the `value` of what is given."""
+    given = types.SimpleNamespace(value=None)
     try:
-        yield
+        yield given
     except expected as raised:
+        given.value = raised
         if not re.search(match, str(raised)):
             fail("%r is not in %r" % (match, str(raised)))
     else:
@@ -87,11 +90,35 @@ class Folders:
         return pathlib.Path(tempfile.mkdtemp(prefix=name, dir=self.top))
 
 
+class Patches:
+    """The fixture monkeypatch: what it sets is as before when the test ends."""
+
+    def __init__(self):
+        self.before = []
+
+    def setattr(self, owner, name, value):
+        """Sets an attribute."""
+        self.before.append(functools.partial(setattr, owner, name, getattr(owner, name)))
+        setattr(owner, name, value)
+
+    def setenv(self, name, value):
+        """Sets a variable of the environment."""
+        had = name in os.environ
+        self.before.append(functools.partial(os.environ.__setitem__, name, os.environ[name]) if had else
+                           functools.partial(os.environ.pop, name))
+        os.environ[name] = value
+
+    def undo(self):
+        """Takes all back, the last first."""
+        while self.before:
+            self.before.pop()()
+
+
 class Tests:
     """The tests of files, and the fixtures that they share."""
 
     def __init__(self, top):
-        self.fixtures, self.made, self.folders = {}, {}, Folders(top)
+        self.fixtures, self.made, self.folders, self.patches = {}, {}, Folders(top), Patches()
 
     def load(self, path):
         """Imports a file, and takes its fixtures."""
@@ -114,6 +141,8 @@ class Tests:
             return self.folders
         if name == "tmp_path":
             return self.folders.mktemp("test")
+        if name == "monkeypatch":
+            return self.patches
         function = self.fixtures[name]
         key = name, {"session": None, "module": module}.get(function.fixture[1], object())
         if key not in self.made:
@@ -181,6 +210,7 @@ def main(words):
                     how, said = "failed", "FAILED %s\n%s" % (name, failed)
                 except (Exception, SystemExit):  # pylint: disable=broad-except
                     how, said = "failed", "FAILED %s\n%s" % (name, traceback.format_exc())
+                tests.patches.undo()
                 counts[how] += 1
                 print(said + "\n" if said else "", end="", flush=True)
     told = ", ".join("%d %s" % (number, how) for how, number in counts.items() if number)
