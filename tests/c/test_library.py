@@ -51,7 +51,7 @@ PROVED = {"proved_" + it for it in CALLS}  # those of the archive
 NEEDS = {"memcpy", "memmove", "memset", "__udivti3", "rattle_alloc", "rattle_realloc", "rattle_dealloc"}
 DAMAGED, SEED, LONG = 150, 41, os.environ.get("MKSTRIKE_LONG")
 SECONDS = 180  # that `rt lib` may take
-STACK = 25 << 9  # bytes that docs/LIBRARY.md promises to be enough for a call, beside those of memcpy and malloc
+STACK = 26 << 9  # bytes that docs/LIBRARY.md promises to be enough for a call, beside those of memcpy and malloc
 # A mode is the letters of its bits, which check_c.c takes by the names of include/mkstrike.h.
 HINTED, DROPOUT, NEAR, ASKED, CAREFUL, X11 = "h", "d", "n", "f", "c", "x"
 MODES = [hinted + closed for closed in ("", DROPOUT, NEAR, ASKED) for hinted in ("", HINTED)]
